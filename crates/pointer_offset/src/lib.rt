@@ -99,7 +99,7 @@ impl PointerOffset {
     }
 }
 
-impl fmt::Debug for PointerOffset as PointerOffsetDebug {
+pub impl fmt::Debug for PointerOffset as PointerOffsetDebug {
     fn fmt<W: fmt::Write>(&self, f: &mut fmt::Formatter<W>) -> fmt::Result {
         let offset = self.offset();
         let segment_id = self.segment_id();

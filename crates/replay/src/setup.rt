@@ -1,0 +1,45 @@
+use crate::outcome::Outcome;
+use shm_allocator::BucketAllocator;
+use shm_allocator::ShmAllocator;
+use shm_allocator::bump_allocator;
+use shm_allocator::bump_allocator::BumpAllocator;
+use shm_allocator::bump_allocator::calls::BumpShmAllocator;
+use shm_allocator::layout::Layout;
+use shm_allocator::pool_allocator;
+use shm_allocator::pool_allocator::PoolAllocator;
+use shm_allocator::pool_allocator::calls::PoolBucketAllocator;
+use shm_allocator::pool_allocator::calls::PoolShmAllocator;
+
+pub fn pool(bucket_layout: Layout, payload: u64) -> Result<PoolAllocator, Outcome> {
+    if bucket_layout.validated().is_none() {
+        return Err(Outcome::BadLayout);
+    }
+    let Ok(payload) = u32::try_from(payload) else {
+        return Err(Outcome::Impossible);
+    };
+    let config = pool_allocator::Config { bucket_layout };
+    if !PoolShmAllocator::can_set_up(config, payload) {
+        return Err(Outcome::Impossible);
+    }
+    Ok(PoolShmAllocator::set_up(config, payload))
+}
+
+pub fn bump(payload: u64) -> Result<BumpAllocator, Outcome> {
+    let Ok(payload) = u32::try_from(payload) else {
+        return Err(Outcome::Impossible);
+    };
+    Ok(BumpShmAllocator::set_up(bump_allocator::Config {}, payload))
+}
+
+pub fn told_of_pool(pool: &PoolAllocator) -> Outcome {
+    Outcome::Pool {
+        buckets: pool.number_of_buckets(),
+        size: pool.bucket_size(),
+    }
+}
+
+pub fn told_of_bump(bump: &BumpAllocator) -> Outcome {
+    Outcome::Bump {
+        payload: bump.total_space(),
+    }
+}
