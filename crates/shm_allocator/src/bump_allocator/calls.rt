@@ -12,6 +12,10 @@ use crate::ShmAllocator;
 use crate::layout::ValidLayout;
 use crate::layout::round_up;
 
+const ID: u8 = 1;
+
+const MAX_ALIGNMENT: u32 = 8;
+
 impl BumpAllocator {
     pub fn total_space(&self) -> u32
         ensures { λ r. ⌜ r ≡ now (self .entry) .payload ⌝ }
@@ -26,7 +30,7 @@ pub impl ShmAllocator for BumpAllocator as BumpShmAllocator {
     ghost means = { bump };
 
     fn unique_id() -> u8 {
-        1
+        ID
     }
 
     fn initial_setup_hint(layout: ValidLayout, chunks: u64) -> SharedMemorySetupHint<Config> {
@@ -65,7 +69,7 @@ pub impl ShmAllocator for BumpAllocator as BumpShmAllocator {
     }
 
     fn allocate(&mut self, layout: ValidLayout) -> Result<u32, ShmAllocationError> {
-        if layout.align() > 8 {
+        if layout.align() > MAX_ALIGNMENT {
             return Err(ShmAllocationError::ExceedsMaxSupportedAlignment);
         }
         let start = round_up(self.mark as u64, layout.align() as u64);

@@ -19,6 +19,12 @@ use crate::layout::LayoutFromValid;
 use crate::layout::ValidLayout;
 use crate::layout::round_up;
 
+const ID: u8 = 0;
+
+const MAX_ALIGNMENT: u32 = 4096;
+
+const MAX_BUCKETS: u32 = 1024;
+
 impl PoolAllocator {
     pub fn number_of_buckets(&self) -> u32
         ensures { λ r. ⌜ r ≡ now (self .entry) .buckets .count ⌝ }
@@ -59,7 +65,7 @@ fn bucket_of(config: Config, payload: u32) -> Option<ValidLayout>
         return None;
     };
     let bucket = layout.rounded();
-    if bucket.align() > 4096 || payload / bucket.size() > 1024 {
+    if bucket.align() > MAX_ALIGNMENT || payload / bucket.size() > MAX_BUCKETS {
         return None;
     }
     Some(bucket)
@@ -71,7 +77,7 @@ pub impl ShmAllocator for PoolAllocator as PoolShmAllocator {
     ghost means = { pool };
 
     fn unique_id() -> u8 {
-        0
+        ID
     }
 
     fn initial_setup_hint(layout: ValidLayout, chunks: u64) -> SharedMemorySetupHint<Config> {
@@ -165,6 +171,6 @@ pub impl ShmAllocator for PoolAllocator as PoolShmAllocator {
 
 pub impl BucketAllocator for PoolAllocator as PoolBucketAllocator {
     fn bucket_size(&self) -> u32 {
-        self.layout.size()
+        self.bucket()
     }
 }
