@@ -1,0 +1,2 @@
+pub mod BaseNames
+pub mod Names
