@@ -1,21 +1,25 @@
+use crate::outcome::Done;
+use crate::outcome::NotDone;
 use crate::outcome::Outcome;
 use crate::words::Call;
+use crate::workplace::Workplace;
 use pointer_offset::PointerOffset;
 use pointer_offset::SegmentId;
 use shm_allocator::ShmAllocator;
 use shm_allocator::layout::Layout;
 use std::alloc::AllocError;
 use std::alloc::Global;
+use std::error::AnyError;
 
 // A chunk by the name that the list gives it.
 #[derive(Drop)]
-pub struct Chunk {
-    pub name: String,
-    pub start: u32,
-    pub size: u32,
-    pub held: bool,
+struct Chunk {
+    name: String,
+    start: u32,
+    size: u32,
+    held: bool,
     // Its bytes came free by a return under another name.
-    pub lost: bool,
+    lost: bool,
 }
 
 impl Chunk {
@@ -31,7 +35,7 @@ impl Chunk {
 pub struct Desk<A: ShmAllocator> {
     heap: Global,
     allocator: A,
-    pub chunks: Vec<Chunk>,
+    chunks: Vec<Chunk>,
 }
 
 impl<A: ShmAllocator> Desk<A> {
@@ -43,24 +47,16 @@ impl<A: ShmAllocator> Desk<A> {
         }
     }
 
-    pub fn carry_out(&mut self, call: Call<'_>) -> Result<Outcome, AllocError> {
-        match call {
-            Call::SetUp(_) => Ok(Outcome::SetUpBefore),
-            Call::Allocate { name, layout } => self.allocate(name, layout),
-            Call::Return { name } => Ok(self.give_back(name)),
-        }
-    }
-
     fn allocate(&mut self, name: &str, layout: Layout) -> Result<Outcome, AllocError> {
         let Some(layout) = layout.validated() else {
-            return Ok(Outcome::BadLayout);
+            return Ok(Outcome::NotDone(NotDone::BadLayout));
         };
         if self.is_held(name) {
-            return Ok(Outcome::NameInUse);
+            return Ok(Outcome::NotDone(NotDone::NameInUse));
         }
         let name = String::from_str(self.heap, name)?;
         match self.allocator.allocate(layout) {
-            Err(e) => Ok(Outcome::Refused(e)),
+            Err(e) => Ok(Outcome::NotDone(NotDone::Refused(e))),
             Ok(start) => self.book(name, start, layout.size()),
         }
     }
@@ -77,9 +73,9 @@ impl<A: ShmAllocator> Desk<A> {
             })?;
         let Ok(at) = PointerOffset::from_offset_and_segment_id(start as usize, SegmentId::new(0))
         else {
-            return Ok(Outcome::Impossible);
+            return Ok(Outcome::NotDone(NotDone::Impossible));
         };
-        Ok(Outcome::Taken { at, size })
+        Ok(Outcome::Done(Done::Taken { at, size }))
     }
 
     fn is_held(&self, name: &str) -> bool {
@@ -104,21 +100,21 @@ impl<A: ShmAllocator> Desk<A> {
 
     fn give_back(&mut self, name: &str) -> Outcome {
         let Some(place) = self.find(name) else {
-            return Outcome::UnknownName;
+            return Outcome::NotDone(NotDone::UnknownName);
         };
         let Some(chunk) = self.chunks.get(place) else {
-            return Outcome::UnknownName;
+            return Outcome::NotDone(NotDone::UnknownName);
         };
         let start = chunk.start;
         let size = chunk.size;
         match self.allocator.deallocate(start, size) {
-            Err(e) => Outcome::NotHeld(e),
-            Ok(()) => self.release(place, start, size),
+            Err(e) => Outcome::NotDone(NotDone::NotHeld(e)),
+            Ok(()) => Outcome::Done(self.release(place, start, size)),
         }
     }
 
     // Marks a chunk as returned and, where its bytes came free, every other held one with bytes there as lost.
-    fn release(&mut self, place: usize, start: u32, size: u32) -> Outcome {
+    fn release(&mut self, place: usize, start: u32, size: u32) -> Done {
         let frees = self.allocator.bucket() != 0;
         let mut under = 0u64;
         for (i, chunk) in self.chunks.iter_mut().enumerate() {
@@ -130,9 +126,36 @@ impl<A: ShmAllocator> Desk<A> {
             }
         }
         if frees {
-            Outcome::TakenBack { start, size, under }
+            Done::TakenBack { start, size, under }
         } else {
-            Outcome::Kept { start, size }
+            Done::Kept { start, size }
         }
+    }
+}
+
+pub impl<A: ShmAllocator> Workplace for Desk<A> as AllocatorDesk {
+    fn carry_out(&mut self, call: Call<'_>) -> Result<Outcome, AllocError> {
+        match call {
+            Call::Allocate { name, layout } => self.allocate(name, layout),
+            Call::Return { name } => Ok(self.give_back(name)),
+            _ => Ok(Outcome::NotDone(NotDone::OtherPart)),
+        }
+    }
+
+    fn sum_up(&self, rt: &LibcRuntime) -> Result<(), AnyError> {
+        for chunk in self.chunks.iter() {
+            let name = &chunk.name;
+            let start = chunk.start;
+            let size = chunk.size;
+            if chunk.lost {
+                println!(
+                    rt,
+                    "    {name} counts on {size} bytes from {start} on, which were taken back under another name"
+                )?;
+            } else if chunk.held {
+                println!(rt, "    {name} holds {size} bytes from {start} on")?;
+            }
+        }
+        Ok(())
     }
 }

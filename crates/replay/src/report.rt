@@ -1,4 +1,3 @@
-use crate::desk::Chunk;
 use crate::outcome::Outcome;
 use crate::outcome::OutcomeDisplay;
 use std::alloc::Global;
@@ -9,7 +8,7 @@ use std::error::AnyError;
 pub struct Report {
     line: u64,
     calls: u64,
-    denied: u64,
+    not_done: u64,
     // The lines that are no call.
     others: Vec<u64>,
 }
@@ -19,7 +18,7 @@ impl Report {
         Report {
             line: 0,
             calls: 0,
-            denied: 0,
+            not_done: 0,
             others: Vec::new(heap),
         }
     }
@@ -29,11 +28,16 @@ impl Report {
         self.line = self.line.saturating_add(1);
     }
 
-    pub fn call(&mut self, rt: &LibcRuntime, text: &str, outcome: Outcome) -> Result<(), AnyError> {
+    pub fn call(
+        &mut self,
+        rt: &LibcRuntime,
+        text: &str,
+        outcome: &Outcome,
+    ) -> Result<(), AnyError> {
         self.pass();
         self.calls = self.calls.saturating_add(1);
-        if outcome.is_denial() {
-            self.denied = self.denied.saturating_add(1);
+        if let Outcome::NotDone(_) = outcome {
+            self.not_done = self.not_done.saturating_add(1);
         }
         let line = self.line;
         println!(rt, "line {line}: {text}\n    {outcome}")?;
@@ -48,27 +52,10 @@ impl Report {
         Ok(())
     }
 
-    pub fn chunks(&self, rt: &LibcRuntime, chunks: &[Chunk]) -> Result<(), AnyError> {
-        for chunk in chunks {
-            let name = &chunk.name;
-            let start = chunk.start;
-            let size = chunk.size;
-            if chunk.lost {
-                println!(
-                    rt,
-                    "{name} counts on {size} bytes from {start} on, which were taken back under another name"
-                )?;
-            } else if chunk.held {
-                println!(rt, "{name} holds {size} bytes from {start} on")?;
-            }
-        }
-        Ok(())
-    }
-
     pub fn end(&self, rt: &LibcRuntime) -> Result<(), AnyError> {
         let calls = self.calls;
-        let denied = self.denied;
-        println!(rt, "{calls} calls, {denied} of them denied")?;
+        let not_done = self.not_done;
+        println!(rt, "{calls} calls, {not_done} of them not done")?;
         for line in self.others.iter() {
             println!(rt, "line {line} is no call")?;
         }

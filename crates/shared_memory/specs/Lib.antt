@@ -1,2 +1,13 @@
 pub mod BaseNames
 pub mod Names
+pub mod Meaning
+pub mod Faults
+pub mod Extents
+pub mod Slots
+pub mod Tables
+pub mod Frames
+pub mod FrameStores
+pub mod Clearings
+pub mod Spans
+pub mod SpanStores
+pub mod Quotas

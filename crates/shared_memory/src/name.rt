@@ -3,6 +3,7 @@ ghost use Rattle.shared_memory.specs.BaseNames.{GoodBase};
 ghost use lib.ListN.{length, take};
 ghost use mathlib.Core.Path.{_≡_};
 
+mod stored;
 #[cfg(test)]
 mod tests;
 pub mod written;
