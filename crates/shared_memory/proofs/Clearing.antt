@@ -1,12 +1,11 @@
 -- Which bytes no segment has, by the segments that stand.
-use mathlib.Core.Path.{_≡_, refl, sym, ap, subst, _∙_}
-use mathlib.Core.Bool.{Bool, true, false, not, _&&_}
-use mathlib.Core.List.{List, [], _∷_}
+use mathlib.Core.Path.{_≡_, refl, sym, subst}
+use mathlib.Core.Bool.{Bool, true, false, _&&_}
+use mathlib.Core.List.{[], _∷_}
 use Prim.Native.Nat.{ℕ, zero, suc, _+_, _<_}
 use lib.Dec.{ltb}
 use lib.ListN.{set}
 use Rattle.std.proofs.shelf.Tests.{ltb-true, lt-ltb, both-ways, and-from, and-left, and-right, not-from-true, not-from-false}
-use Rattle.std.specs.declared.option.Option.{Option}
 use Rattle.std.specs.declared.option.Option.the-variants.{None, Some}
 use Rattle.shared_memory.specs.Clearings.{clear}
 use Rattle.shared_memory.specs.Extents.{Extent, Extents, extent-at}

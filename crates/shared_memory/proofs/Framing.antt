@@ -1,7 +1,7 @@
 -- The rule of placing of equal frames, and what it keeps.
 use mathlib.Core.Path.{_≡_, refl, sym, ap, subst, _∙_}
 use mathlib.Core.Bool.{Bool, true, false, cond, _&&_}
-use mathlib.Core.Logic.{_⊎_, inl, inr, ⊎-elim}
+use mathlib.Core.Logic.{_⊎_, ⊎-elim}
 use Prim.Native.Nat.{ℕ, _+_, _*_, _/_, _%_, _<_, _≤_}
 use native.Mathlib.Nat.{add-mul, one-mul, mul-assoc, mul-mod-left, mul-le-mul-right}
 use native.Mathlib.Omega.{arith}
@@ -9,7 +9,7 @@ use lib.Dec.{leb}
 use lib.ListN.{length, set, replicate}
 use Rattle.std.proofs.shelf.Bits.{div-add-mod'}
 use Rattle.std.proofs.shelf.Lists.{length-set, length-replicate}
-use Rattle.std.proofs.shelf.Tests.{cases-order, cases-bool, leb-true, le-leb, cond-true, cond-false, and-parts, and-from, and-left, and-right}
+use Rattle.std.proofs.shelf.Tests.{cases-order, leb-true, and-parts, and-from, and-right}
 use Rattle.std.specs.Options.{isSome, mapped as over}
 use Rattle.std.specs.declared.option.Option.{Option}
 use Rattle.std.specs.declared.option.Option.the-variants.{None, Some}
@@ -22,8 +22,8 @@ use Rattle.shared_memory.specs.declared.table.SegmentTable.{SegmentTable}
 use Rattle.shared_memory.specs.Extents.{Extent, Extents, extent-at, laid, occupied, free, first-free, Meet, FreePlace, Monotone, StillLeave}
 use Rattle.shared_memory.specs.Frames.{frame-place, frame-rule, Aligned, Fitting}
 use Rattle.shared_memory.specs.Tables.{memory, extents, still-laid, Relaid}
-use Rattle.shared_memory.proofs.Laying.{inside, by-put, all-free, first-free-is, free-first, free-vacated, free-still}
-use Rattle.shared_memory.proofs.Optional.{none-some, same-some, over-some, some-over}
+use Rattle.shared_memory.proofs.Laying.{by-put, all-free, first-free-is, free-first, free-vacated, free-still}
+use Rattle.shared_memory.proofs.Optional.{inside, none-some, same-some, over-some, some-over}
 
 -- there is room exactly when a frame is free and the size fits it
 pub frame-room : (fs : ℕ) (es : Extents) (size : ℕ) → isSome (frame-rule fs es size) ≡ (free es && leb size fs)
@@ -46,13 +46,13 @@ frame-monotone fs es h z e =
 pub frame-still : (fs : ℕ) (es ds : Extents) → length ds ≡ length es → StillLeave (frame-rule fs) es ds
 frame-still fs es ds long k e p q =
     let (f, l) = and-parts (free (set es k None)) (leb (e .size) fs) (sym (frame-room fs (set es k None) (e .size)) ∙ q) in
-    frame-room fs (set ds k None) (e .size) ∙ and-from _ _ (free-vacated ds k (omega (arith, inside es k e p))) l
+    frame-room fs (set ds k None) (e .size) ∙ and-from _ _ (free-vacated ds k (omega (arith, inside es k p))) l
 
 -- a frame ends where a later one begins, or before
-pub frame-ends : (h k fs : ℕ) → h < k → h * fs + fs ≤ k * fs
+frame-ends : (h k fs : ℕ) → h < k → h * fs + fs ≤ k * fs
 frame-ends h k fs lt = let le : h + 1 ≤ k = omega arith in omega (arith, add-mul h 1 fs, one-mul fs, mul-le-mul-right fs le)
 
-pub frame-paged : (h fs : ℕ) → fs % 4096 ≡ 0 → h * fs % 4096 ≡ 0
+frame-paged : (h fs : ℕ) → fs % 4096 ≡ 0 → h * fs % 4096 ≡ 0
 frame-paged h fs e =
     let q : fs ≡ fs / 4096 * 4096 = omega (arith, div-add-mod' fs 4096) in
     ap (λ x. h * x % 4096) q ∙ (ap (λ x. x % 4096) (sym (mul-assoc h (fs / 4096) 4096)) ∙ mul-mod-left (h * (fs / 4096)) 4096)
@@ -94,13 +94,13 @@ module _ (es : Extents) (m fs : ℕ) (f : Frames es m fs) where
         fitting = by-put es h o (λ k e. e .size ≤ fs) (λ e p. new e p .1) (λ k e ne p. f .fitting k e p);
       }
 
-  pub frames-still : (h : ℕ) (r : Result Bool BadHandle) → Frames (still-laid es h r) m fs
+  frames-still : (h : ℕ) (r : Result Bool BadHandle) → Frames (still-laid es h r) m fs
   frames-still h (Err e) = f
   frames-still h (Ok true) = f
   frames-still h (Ok false) = put-frame h None (λ e p. absurd (none-some refl p))
 
   module _ (size : ℕ) (p : Place) (chosen : frame-rule fs es size ≡ Some p) where
-    pub frames-occupied : Frames (occupied es p size) m fs
+    frames-occupied : Frames (occupied es p size) m fs
     frames-occupied =
         let (fits, h, first, same) = chosen-frame fs es size p chosen in
         put-frame (p .handle) (Some (laid p size)) λ e q.
@@ -136,7 +136,20 @@ Facts t fs = ((1 ≤ fs) × (fs % 4096 ≡ 0)) × ((memory t ≡ length (extents
 pub facts : (t : SegmentTable) (fs : ℕ) → (1 ≤ fs) × (fs % 4096 ≡ 0) → Frames (extents t) (memory t) fs → Facts t fs
 facts t fs paged f = (paged, (f .whole, (f .aligned, (f .fitting, tt))))
 
-pub facts-relaid : (s : FrameStore) (t : SegmentTable) (es : Extents) → Relaid (s .table) es t → Frames es (memory (s .table)) (s .«frame_size») → Facts t (s .«frame_size»)
+facts-relaid : (s : FrameStore) (t : SegmentTable) (es : Extents) → Relaid (s .table) es t → Frames es (memory (s .table)) (s .«frame_size») → Facts t (s .«frame_size»)
 facts-relaid s t es r f =
     let fs = s .«frame_size» in
     facts t fs (s .paged) (subst (λ m. Frames (extents t) m fs) (sym (r .memory)) (subst (λ ds. Frames ds (memory (s .table)) fs) (sym (r .extents)) f))
+
+-- after a call of the table
+module _ (s : FrameStore) (t : SegmentTable) where
+  pub facts-kept : Relaid (s .table) (extents (s .table)) t → Facts t (s .«frame_size»)
+  facts-kept r = facts-relaid s t (extents (s .table)) r (frames-of s)
+
+  pub facts-still : (h : ℕ) (a : Result Bool BadHandle) → Relaid (s .table) (still-laid (extents (s .table)) h a) t → Facts t (s .«frame_size»)
+  facts-still h a r =
+      facts-relaid s t (still-laid (extents (s .table)) h a) r (frames-still (extents (s .table)) (memory (s .table)) (s .«frame_size») (frames-of s) h a)
+
+  pub facts-made : (size : ℕ) (p : Place) → frame-rule (s .«frame_size») (extents (s .table)) size ≡ Some p → Relaid (s .table) (occupied (extents (s .table)) p size) t → Facts t (s .«frame_size»)
+  facts-made size p chosen r =
+      facts-relaid s t (occupied (extents (s .table)) p size) r (frames-occupied (extents (s .table)) (memory (s .table)) (s .«frame_size») (frames-of s) size p chosen)

@@ -1,19 +1,19 @@
 -- Where the segments lie, as one ceases or is made, and which handles are free.
 use mathlib.Core.Path.{_≡_, refl, sym, ap, subst, _∙_}
-use mathlib.Core.Bool.{Bool, true, false}
-use mathlib.Core.List.{List, [], _∷_}
+use mathlib.Core.Bool.{true}
+use mathlib.Core.List.{[], _∷_}
 use mathlib.Core.Logic.{_⊎_, inl, inr, ⊎-elim}
 use Prim.Native.Nat.{ℕ, zero, suc, _+_, _%_, _<_, _≤_}
 use native.Mathlib.Omega.{arith}
-use lib.ListN.{length, getD, set, replicate}
-use Rattle.std.proofs.shelf.Lists.{getD-past, getD-set-same, getD-set-other, length-set, set-set, set-getD}
+use lib.ListN.{length, set, replicate}
+use Rattle.std.proofs.shelf.Lists.{getD-set-same, getD-set-other, length-set, set-set, set-getD}
 use Rattle.std.proofs.shelf.Tests.{cases-lt, cases-eq}
 use Rattle.std.specs.Options.{isSome, mapped as over}
 use Rattle.std.specs.declared.option.Option.{Option}
 use Rattle.std.specs.declared.option.Option.the-variants.{None, Some}
 use Rattle.shared_memory.specs.declared.table.Place.{Place}
-use Rattle.shared_memory.specs.Extents.{Extent, Extents, extent-at, laid, occupied, free, first-free, Paged, Within, Meet, Disjoint, Lie, FreePlace}
-use Rattle.shared_memory.proofs.Optional.{none-some, same-some, over-some, some-over}
+use Rattle.shared_memory.specs.Extents.{Extent, Extents, extent-at, laid, occupied, free, first-free, Meet, Lie, FreePlace}
+use Rattle.shared_memory.proofs.Optional.{inside, none-some, same-some, over-some, some-over}
 
 pub meet-turned : (d e : Extent) → Meet d e → Meet e d
 meet-turned d e m = (m .1, m .0)
@@ -22,9 +22,6 @@ meet-turned d e m = (m .1, m .0)
 pub away : (d e : Extent) → (Meet d e → ⊥) → (d .start + d .size ≤ e .start) ⊎ (e .start + e .size ≤ d .start)
 away d e f =
     ⊎-elim (λ lt. ⊎-elim (λ less. absurd (f (lt, less))) inl (cases-lt (e .start) (d .start + d .size))) inr (cases-lt (d .start) (e .start + e .size))
-
-pub inside : (es : Extents) (h : ℕ) (e : Extent) → extent-at es h ≡ Some e → h < length es
-inside es h e p = ⊎-elim (λ lt. lt) (λ le. absurd (none-some (getD-past es h None le) p)) (cases-lt h (length es))
 
 module _ (es : Extents) (h : ℕ) (o : Option Extent) where
   -- what lies there once o was put under h is o, or lay there before
@@ -36,10 +33,10 @@ module _ (es : Extents) (h : ℕ) (o : Option Extent) where
       (cases-eq k h)
     where
       put-here : {e : Extent} → extent-at (set es h o) h ≡ Some e → o ≡ Some e
-      put-here {e = e} q = sym (getD-set-same es h o None (omega (arith, inside (set es h o) h e q, length-set es h o))) ∙ q
+      put-here {e = e} q = sym (getD-set-same es h o None (omega (arith, inside (set es h o) h q, length-set es h o))) ∙ q
 
   -- the segments lie as they may if what was put does
-  pub lie-put : (n : ℕ) → Lie es n → ((e : Extent) → o ≡ Some e → (e .start % 4096 ≡ 0) × (e .start + e .size ≤ n)) → ((e : Extent) → o ≡ Some e → (k : ℕ) (d : Extent) → (k ≡ h → ⊥) → extent-at es k ≡ Some d → Meet e d → ⊥) → Lie (set es h o) n
+  lie-put : (n : ℕ) → Lie es n → ((e : Extent) → o ≡ Some e → (e .start % 4096 ≡ 0) × (e .start + e .size ≤ n)) → ((e : Extent) → o ≡ Some e → (k : ℕ) (d : Extent) → (k ≡ h → ⊥) → extent-at es k ≡ Some d → Meet e d → ⊥) → Lie (set es h o) n
   lie-put n l fits apart =
       record {
         paged = by-put (λ k e. e .start % 4096 ≡ 0) (λ e p. fits e p .0) (λ k e ne p. l .paged k e p);
@@ -102,7 +99,7 @@ free-first [] = refl
 free-first (None ∷ es) = refl
 free-first (Some d ∷ es) = some-over suc (first-free es) ∙ free-first es
 
-pub free-at : (es : Extents) (h : ℕ) → h < length es → extent-at es h ≡ None → free es ≡ true
+free-at : (es : Extents) (h : ℕ) → h < length es → extent-at es h ≡ None → free es ≡ true
 free-at [] h lt e = absurd (omega arith)
 free-at (None ∷ es) h lt e = refl
 free-at (Some d ∷ es) zero lt e = absurd (none-some e refl)

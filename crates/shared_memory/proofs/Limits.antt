@@ -1,14 +1,14 @@
 -- A quota over a store: each call below is the same call within the quota.
-use mathlib.Core.Path.{_≡_, refl, sym, ap, subst, _∙_}
+use mathlib.Core.Path.{_≡_, refl, sym, ap, _∙_}
 use mathlib.Core.Bool.{Bool, true, false, _&&_}
 use mathlib.Core.List.{List, [], _∷_}
-use mathlib.Core.Logic.{_⊎_, inl, inr, ⊎-elim}
+use mathlib.Core.Logic.{_⊎_, ⊎-elim}
 use Prim.Native.Nat.{ℕ, _+_, _<_, _≤_}
 use native.Mathlib.Omega.{arith}
 use lib.Dec.{leb}
 use lib.ListN.{length}
 use Rattle.std.proofs.shelf.Lists.{length-replicate}
-use Rattle.std.proofs.shelf.Tests.{cases-eq, le-leb, leb-true, and-parts, and-from, and-left}
+use Rattle.std.proofs.shelf.Tests.{cases-eq, le-leb, leb-true, and-parts, and-from, and-left, and-right}
 use Rattle.std.specs.Options.{valueOr}
 use Rattle.std.specs.declared.option.Option.{Option}
 use Rattle.std.specs.declared.option.Option.the-variants.{None, Some}
@@ -19,28 +19,32 @@ use Rattle.shared_memory.specs.declared.fault.Opened.{Opened}
 use Rattle.shared_memory.specs.declared.fault.SharedMemoryCreateError.{SharedMemoryCreateError}
 use Rattle.shared_memory.specs.declared.fault.SharedMemoryOpenError.{SharedMemoryOpenError}
 use Rattle.shared_memory.specs.declared.fault.AccessError.{AccessError}
-use Rattle.shared_memory.specs.Meaning.{Segment, Store, Sound, Same, Changes, Ceases, Left, stands, ceased, Made, MakeDenied, Makes, Opens, Withdraws, Closes, Reads, Writes, OpenDenied, AccessDenied, size-at}
+use Rattle.shared_memory.specs.Meaning.{Segment, Store, Sound, Same, Changes, Ceases, Left, stands, ceased, Made, MakeDenied, Makes, Opens, Withdraws, Closes, Reads, Writes, OpenDenied, AccessDenied, room, size-at}
 use Rattle.shared_memory.specs.Quotas.{total, skipping, skipping-all, bytes-under, used, used-without, limited}
 use Rattle.shared_memory.proofs.Overwriting.{length-patched}
 use Rattle.shared_memory.proofs.Sounds.{size-of, fewer-sound}
 use Rattle.shared_memory.proofs.Totals.{by-handle, skipped, total-split, total-skip, some-term}
 
 -- the payload size by what stands
-bytes-none : (s : Store) (h : ℕ) → s .at h ≡ None → bytes-under s h ≡ 0
-bytes-none s h e = ap (λ o. valueOr (size-of o) 0) e
+bytes-at : (s : Store) (h : ℕ) {o : Option Segment} → s .at h ≡ o → bytes-under s h ≡ valueOr (size-of o) 0
+bytes-at s h e = ap (λ o. valueOr (size-of o) 0) e
 
-bytes-some : (s : Store) (h : ℕ) (g : Segment) → s .at h ≡ Some g → bytes-under s h ≡ length (g .bytes)
-bytes-some s h g e = ap (λ o. valueOr (size-of o) 0) e
+pub bytes-told : (s : Store) (h : ℕ) (o : Option ℕ) (n : ℕ) → n ≡ valueOr o 0 → o ≡ size-at s h → n ≡ bytes-under s h
+bytes-told s h o n e p = e ∙ ap (λ o. valueOr o 0) p
 
-bytes-same : (s t : Store) (h : ℕ) → t .at h ≡ s .at h → bytes-under t h ≡ bytes-under s h
-bytes-same s t h e = ap (λ o. valueOr (size-of o) 0) e
+-- what the test of the quota says
+pub fits-quota : (s : Store) (size q : ℕ) → true ≡ leb (used s + size) q → used s + size ≤ q
+fits-quota s size q e = leb-true (used s + size) q (sym e)
+
+pub passes-quota : (s : Store) (size q : ℕ) → false ≡ leb (used s + size) q → room (limited s q) size ≡ false
+passes-quota s size q e = and-right (room s size) (leb (used s + size) q) (sym e)
 
 -- where bytes stand, a segment does
 stands-at : (s : Store) (h : ℕ) → 1 ≤ bytes-under s h → (g : Segment) × (s .at h ≡ Some g)
 stands-at s h le = go (s .at h) refl
   where
     go : (o : Option Segment) → s .at h ≡ o → (g : Segment) × (s .at h ≡ Some g)
-    go None e = absurd (omega (arith, bytes-none s h e))
+    go None e = absurd (omega (arith, bytes-at s h e))
     go (Some g) e = (g, e)
 
 -- a quota over a sound store, and back
@@ -49,7 +53,7 @@ module _ (s : Store) (q : ℕ) where
   sound-below d = fewer-sound (limited s q) s (λ h g e. e) (λ h g e. and-parts _ _ (d .leaves-room h g e) .0) d
 
   split : (h : ℕ) (g : Segment) → h < 320 → s .at h ≡ Some g → used s ≡ used-without s (h ∷ []) + length (g .bytes)
-  split h g lt e = total-split (bytes-under s) h 320 lt ∙ ap (λ n. used-without s (h ∷ []) + n) (bytes-some s h g e)
+  split h g lt e = total-split (bytes-under s) h 320 lt ∙ ap (λ n. used-without s (h ∷ []) + n) (bytes-at s h e)
 
   within : Sound (limited s q) → used s ≤ q
   within d = ⊎-elim (λ none. omega arith) (λ (k, lt, one). at k lt (stands-at s k one)) (some-term (bytes-under s) 320)
@@ -77,7 +81,7 @@ module _ (s t : Store) (q : ℕ) where
   same-limited d = record { at = d .at; room-without = without-limited level (d .room-without); room-with = with-limited level (d .room-with) }
     where
       level : bytes-under t ≡ bytes-under s
-      level = by-handle λ k. bytes-same s t k (d .at k)
+      level = by-handle λ k. bytes-at t k (d .at k)
 
   -- of a segment that keeps its size
   changes-limited : (h : ℕ) (f g : Segment) → s .at h ≡ Some f → length (g .bytes) ≡ length (f .bytes) → Changes s h g t → Changes (limited s q) h g (limited t q)
@@ -88,8 +92,8 @@ module _ (s t : Store) (q : ℕ) where
       level =
           by-handle λ k.
           ⊎-elim
-          (λ same. ap (bytes-under t) same ∙ (bytes-some t h g (d .here) ∙ (size ∙ (sym (bytes-some s h f e) ∙ ap (bytes-under s) (sym same)))))
-          (λ ne. bytes-same s t k (d .others k ne))
+          (λ same. ap (bytes-under t) same ∙ (bytes-at t h (d .here) ∙ (size ∙ (sym (bytes-at s h e) ∙ ap (bytes-under s) (sym same)))))
+          (λ ne. bytes-at t k (d .others k ne))
           (cases-eq k h)
 
   ceases-limited : (h : ℕ) → Ceases s h t → Ceases (limited s q) h (limited t q)
@@ -102,7 +106,7 @@ module _ (s t : Store) (q : ℕ) where
       }
     where
       less : bytes-under t ≡ skipping h (bytes-under s)
-      less = skipped (bytes-under s) (bytes-under t) h (bytes-none t h (d .here)) (λ k ne. bytes-same s t k (d .others k ne))
+      less = skipped (bytes-under s) (bytes-under t) h (bytes-at t h (d .here)) (λ k ne. bytes-at t k (d .others k ne))
 
   left-limited : (h : ℕ) (f g : Segment) (b : Bool) → s .at h ≡ Some f → length (g .bytes) ≡ length (f .bytes) → Left s h g t b → Left (limited s q) h g (limited t q) b
   left-limited h f g true e size (stands n d) = stands n (changes-limited h f g e size d)
@@ -127,12 +131,12 @@ module _ (s t : Store) (q : ℕ) where
       }
     where
       less : bytes-under s ≡ skipping (o .handle) (bytes-under t)
-      less = skipped (bytes-under t) (bytes-under s) (o .handle) (bytes-none s (o .handle) (d .was-free)) (λ k ne. sym (bytes-same s t k (d .others k ne)))
+      less = skipped (bytes-under t) (bytes-under s) (o .handle) (bytes-at s (o .handle) (d .was-free)) (λ k ne. sym (bytes-at t k (d .others k ne)))
 
       grown : used t ≡ used s + size
       grown =
           total-split (bytes-under t) (o .handle) 320 (d .handle)
-          ∙ λ i. total (sym less i) 320 + (bytes-some t (o .handle) _ (d .here) ∙ length-replicate {A = ℕ} size 0) i
+          ∙ λ i. total (sym less i) 320 + (bytes-at t (o .handle) (d .here) ∙ length-replicate {A = ℕ} size 0) i
 
   -- a call that is denied below is denied for the same reason
   unmade-limited : (n : List ℕ) (size k : ℕ) → MakeDenied s n size k → MakeDenied (limited s q) n size k

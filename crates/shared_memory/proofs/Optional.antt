@@ -1,8 +1,13 @@
--- What an optional value is, by what is known of it.
+-- What an optional value is, by what is known of it, and where it stands in a list.
 use mathlib.Core.Path.{_≡_, refl}
-use mathlib.Core.Bool.{Bool, true, false}
-use Prim.Native.Nat.{ℕ}
+use mathlib.Core.Bool.{true, false}
+use mathlib.Core.List.{List}
+use mathlib.Core.Logic.{⊎-elim}
+use Prim.Native.Nat.{ℕ, _<_}
 use native.Mathlib.Omega.{arith}
+use lib.ListN.{length, getD}
+use Rattle.std.proofs.shelf.Lists.{getD-past}
+use Rattle.std.proofs.shelf.Tests.{cases-lt}
 use Rattle.std.specs.Options.{isSome, mapped as over}
 use Rattle.std.specs.declared.option.Option.{Option}
 use Rattle.std.specs.declared.option.Option.the-variants.{None, Some}
@@ -32,3 +37,7 @@ over-some f (Some x) y e = (x, refl, same-some refl e)
 pub some-over : {X Y : Type 0} (f : X → Y) (o : Option X) → isSome (over f o) ≡ isSome o
 some-over f None = refl
 some-over f (Some x) = refl
+
+-- what stands in a list stands before its end
+pub inside : {X : Type 0} (xs : List (Option X)) (h : ℕ) {x : X} → getD xs h None ≡ Some x → h < length xs
+inside xs h e = ⊎-elim (λ lt. lt) (λ le. absurd (none-some (getD-past xs h None le) e)) (cases-lt h (length xs))

@@ -1,13 +1,12 @@
 -- What is read of bytes that were written over.
 use mathlib.Core.Path.{_≡_, refl, sym, ap, _∙_}
-use mathlib.Core.List.{List, _++_}
-use mathlib.Core.Logic.{_⊎_, inl, inr, ⊎-elim}
-use Prim.Native.Nat.{ℕ, _+_, _-_, _<_, _≤_, min}
+use mathlib.Core.List.{List}
+use mathlib.Core.Logic.{_⊎_, ⊎-elim}
+use Prim.Native.Nat.{ℕ, _+_, _-_, _<_, _≤_}
 use native.Mathlib.Omega.{arith}
-use borrow.Author.Needs.{needs}
 use borrow.Rule.Slice.PartMut.{putMid}
-use lib.ListN.{length, getD, take, drop}
-use Rattle.std.proofs.shelf.Lists.{same-lists, places, length-take, length-drop, length-append, getD-append-left, getD-append-right, getD-take, getD-drop}
+use lib.ListN.{length, getD, drop}
+use Rattle.std.proofs.shelf.Lists.{same-lists, places, length-take, length-drop, length-append, getD-take, getD-drop}
 use Rattle.std.proofs.shelf.Tests.{cases-lt}
 use Rattle.std.proofs.shelf.Parts.{putMid-paste}
 use Rattle.std.proofs.shelf.Edits.{paste-all}
@@ -20,19 +19,19 @@ module _ (xs new : List ℕ) (at : ℕ) (fit : at + length new ≤ length xs) wh
   pub length-patched : length (patched xs at new) ≡ length xs
   length-patched = simp (length-append, length-take, length-drop) (omega arith)
 
-  pub getD-patched-low : (k d : ℕ) → k < at → getD (patched xs at new) k d ≡ getD xs k d
+  getD-patched-low : (k d : ℕ) → k < at → getD (patched xs at new) k d ≡ getD xs k d
   getD-patched-low k d lt = grind (arith, places)
 
-  pub getD-patched-mid : (k d : ℕ) → at ≤ k → k < at + length new → getD (patched xs at new) k d ≡ getD new (k - at) d
+  getD-patched-mid : (k d : ℕ) → at ≤ k → k < at + length new → getD (patched xs at new) k d ≡ getD new (k - at) d
   getD-patched-mid k d le lt = grind (arith, places)
 
-  pub getD-patched-high : (k d : ℕ) → at + length new ≤ k → getD (patched xs at new) k d ≡ getD xs k d
+  getD-patched-high : (k d : ℕ) → at + length new ≤ k → getD (patched xs at new) k d ≡ getD xs k d
   getD-patched-high k d le = grind (arith, places)
 
 pub length-part : (xs : List ℕ) (b n : ℕ) → b + n ≤ length xs → length (part xs b n) ≡ n
 length-part xs b n le = simp (length-take, length-drop) (omega arith)
 
-pub getD-part : (xs : List ℕ) (b n k d : ℕ) → k < n → getD (part xs b n) k d ≡ getD xs (b + k) d
+getD-part : (xs : List ℕ) (b n k d : ℕ) → k < n → getD (part xs b n) k d ≡ getD xs (b + k) d
 getD-part xs b n k d lt = getD-take n (drop b xs) k d lt ∙ getD-drop b xs k d
 
 module _ (xs new : List ℕ) (at : ℕ) (fit : at + length new ≤ length xs) (b n : ℕ) where

@@ -3,7 +3,7 @@ use mathlib.Core.Path.{_≡_, refl, sym, ap, subst, _∙_}
 use mathlib.Core.Bool.{true}
 use mathlib.Core.List.{List, [], _∷_}
 use mathlib.Core.Logic.{_⊎_, inl, inr, ⊎-elim}
-use Prim.Native.Nat.{ℕ, _+_, _^_, _<_, _≤_}
+use Prim.Native.Nat.{ℕ, _^_, _<_, _≤_}
 use native.Mathlib.Omega.{arith}
 use lib.ListN.{length, set, replicate}
 use Rattle.std.proofs.shelf.Lists.{length-replicate, set-comm}
@@ -13,7 +13,7 @@ use Rattle.std.specs.declared.option.Option.the-variants.{None, Some}
 use Rattle.shared_memory.specs.declared.fault.Opened.{Opened}
 use Rattle.shared_memory.specs.declared.table.Place.{Place}
 use Rattle.shared_memory.specs.Extents.{Extent, Extents, extent-at, laid, occupied, filled-in, vacated, Rule, ruled, FreePlace, Monotone, StillLeave}
-use Rattle.shared_memory.specs.Meaning.{Segment, Store, Apart, GoodName, Named, Changes, Ceases, Made}
+use Rattle.shared_memory.specs.Meaning.{Segment, Store, Apart, GoodName, GoodAddress, Named, Changes, Ceases, Made}
 use Rattle.shared_memory.proofs.Laying.{away, undone}
 use Rattle.shared_memory.proofs.Optional.{none-some, same-some}
 use Rattle.shared_memory.proofs.Sounds.{LeavesRoom, fewer-sound, stood, by, joined-sound}
@@ -51,13 +51,19 @@ abbrev pub zeroed : List ℕ → Place → ℕ → ℕ → Segment
 zeroed n p size kind = record { name = Some n; kind = kind; bytes = replicate size 0; address = p .start; maps = 1 }
 
 -- the segments lie where the extents say
-abbrev pub Told : (ℕ → Option Segment) → Extents → Type 0
+abbrev Told : (ℕ → Option Segment) → Extents → Type 0
 Told at es = (k : ℕ) (g : Segment) → at k ≡ Some g → (e : Extent) × (extent-at es k ≡ Some e) × (e .start ≡ g .address) × (e .size ≡ length (g .bytes))
 
 -- a segment was made at a free place
 module _ (old new : ℕ → Option Segment) (es : Extents) (told : Told old es) (few : length es ≤ 320) (m : ℕ) (small : m < 2 ^ 63) (p : Place) (n : List ℕ) (size kind : ℕ) (place : FreePlace es m p size) (good : GoodName n) (sized : 1 ≤ size) (was : old (p .handle) ≡ None) (here : new (p .handle) ≡ Some (zeroed n p size kind)) (others : (k : ℕ) → (k ≡ p .handle → ⊥) → new k ≡ old k) where
   zeros : length (replicate {A = ℕ} size 0) ≡ size
   zeros = length-replicate {A = ℕ} size 0
+
+  low-handle : p .handle < 320
+  low-handle = omega (arith, place .handle)
+
+  good-address : GoodAddress (p .start)
+  good-address = (place .paged, omega (arith, place .within))
 
   apart : (k : ℕ) (f : Segment) → old k ≡ Some f → Apart (zeroed n p size kind) f
   apart k f q =
@@ -91,8 +97,8 @@ module _ (old new : ℕ → Option Segment) (es : Extents) (told : Told old es) 
           had-room = ap isSome chosen;
           was-free = was;
           here = here;
-          handle = omega (arith, place .handle);
-          address = (place .paged, omega (arith, place .within));
+          handle = low-handle;
+          address = good-address;
           kind-told = refl;
           others = others;
           undone = λ hs z. ap (λ ds. isSome (rule (vacated ds hs) z)) back;
@@ -100,8 +106,8 @@ module _ (old new : ℕ → Option Segment) (es : Extents) (told : Told old es) 
           sound = λ w.
               joined-sound S T (p .handle) others (zeroed n p size kind) here
               (record {
-                handle = omega (arith, place .handle);
-                address = (place .paged, omega (arith, place .within));
+                handle = low-handle;
+                address = good-address;
                 apart = λ k f ne q. apart k f q;
                 new-name = λ k f i q x y. fresh (k, f, q, y ∙ sym x);
                 good-name = λ i x. subst GoodName (same-some refl x) good;

@@ -1,26 +1,25 @@
 -- What the slots of a table mean, as one is put and as bytes are written over.
-use mathlib.Core.Path.{_≡_, refl, sym, ap, subst, _∙_}
+use mathlib.Core.Path.{_≡_, refl, sym, ap, _∙_}
 use mathlib.Core.List.{List, [], _∷_}
 use mathlib.Core.Logic.{_⊎_, inl, inr, ⊎-elim}
 use Prim.Native.Nat.{ℕ, zero, suc, _+_, _<_, _≤_}
 use native.Mathlib.Omega.{arith}
-use lib.ListN.{length, getD, set, replicate}
+use lib.ListN.{length, set, replicate}
 use lib.LanesLaws.{map-replicate}
 use lib.Seq.{map-set-same}
-use Rattle.std.proofs.shelf.Lists.{getD-past, getD-set-same, getD-set-other, length-map, map-set}
-use Rattle.std.proofs.shelf.Tests.{cases-lt}
+use Rattle.std.proofs.shelf.Lists.{getD-set-same, getD-set-other, length-map, map-set}
 use Rattle.std.specs.Options.{mapped as over}
 use Rattle.std.specs.declared.option.Option.{Option}
 use Rattle.std.specs.declared.option.Option.the-variants.{None, Some}
 use Rattle.shared_memory.specs.declared.table.Slot.{Slot}
-use Rattle.shared_memory.specs.Extents.{Extent, Extents, extent-at, first-free, Within, Meet}
-use Rattle.shared_memory.specs.Meaning.{Segment, part, patched, filled}
-use Rattle.shared_memory.specs.Slots.{name-of, segment, extent, slot-at, segments-in, extents-in}
+use Rattle.shared_memory.specs.Extents.{Extent, extent-at, first-free, Within, Meet}
+use Rattle.shared_memory.specs.Meaning.{Segment, patched, filled}
+use Rattle.shared_memory.specs.Slots.{segment, extent, slot-at, segments-in, extents-in}
 use Rattle.shared_memory.proofs.Laying.{away, first-free-at, first-free-full}
-use Rattle.shared_memory.proofs.Optional.{none-some, over-none, over-some}
+use Rattle.shared_memory.proofs.Optional.{over-none, over-some}
 use Rattle.shared_memory.proofs.Overwriting.{length-part, part-outside, part-around}
 
-pub extent-over : (slots : List (Option Slot)) (h : ℕ) → extent-at (extents-in slots) h ≡ over extent (slot-at slots h)
+extent-over : (slots : List (Option Slot)) (h : ℕ) → extent-at (extents-in slots) h ≡ over extent (slot-at slots h)
 extent-over [] h = refl
 extent-over (o ∷ os) zero = refl
 extent-over (o ∷ os) (suc h) = extent-over os h
@@ -29,9 +28,6 @@ pub extents-free : (n : ℕ) → extents-in (replicate n None) ≡ replicate n N
 extents-free n = map-replicate (over extent) n None
 
 module _ (slots : List (Option Slot)) where
-  pub slot-inside : (h : ℕ) (x : Slot) → slot-at slots h ≡ Some x → h < length slots
-  slot-inside h x e = ⊎-elim (λ lt. lt) (λ le. absurd (none-some (getD-past slots h None le) e)) (cases-lt h (length slots))
-
   pub extent-some : (h : ℕ) (x : Slot) → slot-at slots h ≡ Some x → extent-at (extents-in slots) h ≡ Some (extent x)
   extent-some h x e = extent-over slots h ∙ ap (over extent) e
 
@@ -41,7 +37,7 @@ module _ (slots : List (Option Slot)) where
   pub extent-none : (h : ℕ) → extent-at (extents-in slots) h ≡ None → slot-at slots h ≡ None
   extent-none h e = over-none extent (slot-at slots h) (sym (extent-over slots h) ∙ e)
 
-  pub slot-none : (h : ℕ) → slot-at slots h ≡ None → extent-at (extents-in slots) h ≡ None
+  slot-none : (h : ℕ) → slot-at slots h ≡ None → extent-at (extents-in slots) h ≡ None
   slot-none h e = extent-over slots h ∙ ap (over extent) e
 
   pub length-extents : length (extents-in slots) ≡ length slots

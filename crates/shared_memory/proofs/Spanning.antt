@@ -1,25 +1,24 @@
 -- The rule of placing of pages, and what it keeps.
 use mathlib.Core.Path.{_≡_, refl, sym, ap, subst, _∙_}
 use mathlib.Core.Bool.{Bool, true, false, cond, _&&_, _||_}
-use mathlib.Core.Logic.{_⊎_, inl, inr, ⊎-elim}
-use Prim.Native.Nat.{ℕ, zero, suc, _+_, _*_, _/_, _%_, _<_, _≤_}
+use mathlib.Core.Logic.{_⊎_, ⊎-elim}
+use Prim.Native.Nat.{ℕ, zero, suc, _+_, _*_, _/_, _<_, _≤_}
 use native.Mathlib.Nat.{mul-mod-left}
 use native.Mathlib.Omega.{arith}
 use lib.Dec.{leb}
-use lib.ListN.{length, set}
-use Rattle.std.proofs.shelf.Bits.{div-add-mod'}
+use lib.ListN.{set}
 use Rattle.std.proofs.shelf.Lists.{getD-set-other}
 use Rattle.std.proofs.shelf.Tests.{cases-lt, cases-eq, leb-true, le-leb, lt-leb, and-parts, and-from, and-left, and-right, or-left, or-right, or-cases}
-use Rattle.std.specs.Options.{isSome, mapped as over}
+use Rattle.std.specs.Options.{isSome}
 use Rattle.std.specs.declared.option.Option.{Option}
 use Rattle.std.specs.declared.option.Option.the-variants.{None, Some}
 use Rattle.shared_memory.specs.declared.table.Place.{Place}
 use Rattle.shared_memory.specs.Clearings.{clear, Blocked}
-use Rattle.shared_memory.specs.Extents.{Extent, Extents, extent-at, laid, occupied, free, first-free, Within, Lie, FreePlace, Monotone, StillLeave}
+use Rattle.shared_memory.specs.Extents.{Extent, Extents, extent-at, occupied, free, first-free, Within, Lie, FreePlace, Monotone, StillLeave}
 use Rattle.shared_memory.specs.Spans.{pages-of, free-run, some-below, or-else, first-below, fits, first-run, span-place, span-rule}
 use Rattle.shared_memory.proofs.Clearing.{clear-all, clear-met, clear-back, clear-still}
-use Rattle.shared_memory.proofs.Laying.{away, inside, by-put, lie-occupied, first-free-is, free-first, free-vacated, free-still}
-use Rattle.shared_memory.proofs.Optional.{none-some, same-some, over-some, some-over}
+use Rattle.shared_memory.proofs.Laying.{away, by-put, lie-occupied, first-free-is, free-first, free-vacated, free-still}
+use Rattle.shared_memory.proofs.Optional.{inside, none-some, same-some, some-over}
 
 -- the first number below a bound, and whether there is one
 first-some : (f : ℕ → Bool) (m : ℕ) → isSome (first-below f m) ≡ some-below f m
@@ -72,10 +71,10 @@ some-still f g i (suc k) e =
     ⊎-elim (λ a. or-left (some-below g k) (g k) (some-still f g i k a)) (λ b. or-right (some-below g k) (g k) (i k b)) (or-cases (some-below f k) (f k) e)
 
 -- a payload lies in its pages, and takes no page more than it needs
-pub pages-hold : (z : ℕ) → z ≤ pages-of z * 4096
+pages-hold : (z : ℕ) → z ≤ pages-of z * 4096
 pages-hold z = omega arith
 
-pub pages-few : (z p : ℕ) → p < pages-of z → p * 4096 < z
+pages-few : (z p : ℕ) → p < pages-of z → p * 4096 < z
 pages-few z p lt = omega arith
 
 -- there is room exactly when a handle is free and enough free pages lie side by side
@@ -100,10 +99,10 @@ span-monotone pages es h z e =
     (pages + 1) l)
 
 -- a segment that ceases leaves its pages
-pub span-leaves : (pages : ℕ) (es : Extents) → Lie es (pages * 4096) → (k : ℕ) (e : Extent) → extent-at es k ≡ Some e → isSome (span-rule pages (set es k None) (e .size)) ≡ true
+span-leaves : (pages : ℕ) (es : Extents) → Lie es (pages * 4096) → (k : ℕ) (e : Extent) → extent-at es k ≡ Some e → isSome (span-rule pages (set es k None) (e .size)) ≡ true
 span-leaves pages es l k e p =
     span-room pages (set es k None) (e .size)
-    ∙ and-from _ _ (free-vacated es k (inside es k e p)) (fits-at (set es k None) pages n page (omega (arith, l .within k e p, start)) clean)
+    ∙ and-from _ _ (free-vacated es k (inside es k p)) (fits-at (set es k None) pages n page (omega (arith, l .within k e p, start)) clean)
   where
     n : ℕ
     n = pages-of (e .size)
@@ -164,8 +163,8 @@ module _ (es : Extents) (pages n : ℕ) where
   pub goes-on : Within es (pages * 4096) → (page end : ℕ) → Blocked es (page * 4096) ((page + n) * 4096) end → (page < pages-of end) × (pages-of end ≤ pages)
   goes-on w page end b = let inner = w (b .handle) (b .extent) (b .lies) in (omega (arith, b .lasts, b .ends), omega (arith, b .ends))
 
-  pub run-bound : (page : ℕ) → first-run es pages n ≡ Some page → page + n ≤ pages
-  run-bound page e = leb-true _ _ (and-parts (leb (page + n) pages) _ (first-holds (free-run es pages n) (pages + 1) page e) .0)
+  pub run-bound : (page : ℕ) → Some page ≡ first-run es pages n → page + n ≤ pages
+  run-bound page e = leb-true _ _ (and-parts (leb (page + n) pages) _ (first-holds (free-run es pages n) (pages + 1) page (sym e)) .0)
 
   pub run-found : (page : ℕ) → page + n ≤ pages → clear es (page * 4096) ((page + n) * 4096) ≡ true → ((q : ℕ) → q < page → free-run es pages n q ≡ false) → first-run es pages n ≡ Some page
   run-found page le c before = first-found (free-run es pages n) (pages + 1) page (omega arith) (and-from _ _ (le-leb _ _ le) c) before

@@ -1,8 +1,8 @@
 -- What a table means, as a slot is put, bytes are written over, or a segment is made.
 use mathlib.Core.Path.{_≡_, refl, sym, ap, subst, _∙_}
 use mathlib.Core.Bool.{Bool, true, false, not}
-use mathlib.Core.List.{List, [], _∷_}
-use mathlib.Core.Logic.{_⊎_, inl, inr, ⊎-elim}
+use mathlib.Core.List.{List}
+use mathlib.Core.Logic.{_⊎_, ⊎-elim}
 use Prim.Native.Nat.{ℕ, _+_, _^_, _<_, _≤_}
 use native.Mathlib.Omega.{arith}
 use lib.ListN.{length, set, replicate}
@@ -14,21 +14,21 @@ use Rattle.std.specs.Orderings.{When}
 use Rattle.std.specs.Options.{isSome, mapped as over}
 use Rattle.std.specs.declared.option.Option.{Option}
 use Rattle.std.specs.declared.option.Option.the-variants.{None, Some}
-use Rattle.std.specs.declared.result.Result.the-variants.{Ok}
 use Rattle.shared_memory.specs.declared.name.SegmentName.{SegmentName}
 use Rattle.shared_memory.specs.declared.table.Place.{Place}
 use Rattle.shared_memory.specs.declared.table.SegmentTable.{SegmentTable}
 use Rattle.shared_memory.specs.declared.table.Slot.{Slot}
-use Rattle.shared_memory.specs.Extents.{Extent, Extents, extent-at, laid, occupied, Rule, ruled, Paged, Within, Disjoint, Lie, FreePlace, Monotone, StillLeave}
-use Rattle.shared_memory.specs.Meaning.{Segment, Store, Empty, Named, GoodName, GoodAddress, Changes, Ceases, Left, stands, ceased, Made, patched, filled, part}
+use Rattle.shared_memory.specs.Extents.{Extents, extent-at, laid, occupied, Rule, ruled, Paged, Within, Disjoint, Lie, FreePlace, Monotone, StillLeave}
+use Rattle.shared_memory.specs.Meaning.{Empty, Same, Named, GoodName, MakeDenied, GoodAddress, Changes, Ceases, Left, stands, ceased, Made, patched, filled, part}
 use Rattle.shared_memory.specs.Names.{written}
-use Rattle.shared_memory.specs.Slots.{name-of, segment, extent, slot-at, segments-in, extents-in}
-use Rattle.shared_memory.specs.Tables.{slots-of, bytes-of, memory, segment-of, segments, extents, under, Puts, Patches, Relaid, still-laid, Follows, Finds}
+use Rattle.shared_memory.specs.Slots.{name-of, extent, slot-at, segments-in, extents-in}
+use Rattle.shared_memory.specs.Tables.{slots-of, bytes-of, memory, segment-of, segments, extents, under, Puts, Patches, Relaid, Follows, Finds}
 use Rattle.shared_memory.proofs.Laying.{all-free, lie-free, lie-vacated, lie-occupied, meet-turned}
-use Rattle.shared_memory.proofs.Optional.{none-some, is-none, over-none}
-use Rattle.shared_memory.proofs.Overwriting.{length-patched, part-written}
+use Rattle.shared_memory.proofs.Optional.{inside, is-none, over-none}
+use Rattle.shared_memory.proofs.Overwriting.{length-patched, part-part, part-written}
 use Rattle.shared_memory.proofs.Ruled.{opened, zeroed, changes, ceases, made}
 use Rattle.shared_memory.proofs.Slotted as slotted
+use Rattle.shared_memory.proofs.Sounds.{roomless}
 
 pub lies : (s : SegmentTable) → Lie (extents s) (memory s)
 lies s = record { paged = s .paged; within = s .within; disjoint = s .disjoint }
@@ -60,7 +60,7 @@ free-facts n slots bytes e few small =
 pub unmoved : (s : SegmentTable) → Relaid s (extents s) s
 unmoved s = record { extents = refl; memory = refl }
 
-pub meant : (rule : Rule) (t : SegmentTable) {slots : List (Option Slot)} {bytes : List ℕ} {es : Extents} → slots-of t ≡ slots → bytes-of t ≡ bytes → extents t ≡ es → ruled rule (segments-in slots bytes) es ≡ under rule t
+meant : (rule : Rule) (t : SegmentTable) {slots : List (Option Slot)} {bytes : List ℕ} {es : Extents} → slots-of t ≡ slots → bytes-of t ≡ bytes → extents t ≡ es → ruled rule (segments-in slots bytes) es ≡ under rule t
 meant rule t a b c = λ i. ruled rule (segments-in (sym a i) (sym b i)) (sym c i)
 
 -- of what stands under a handle
@@ -80,6 +80,9 @@ module _ (s : SegmentTable) (h : ℕ) where
   pub good-start : (x : Slot) → slot-at (slots-of s) h ≡ Some x → GoodAddress (x .start)
   good-start x e = (s .paged h (extent x) (slotted.extent-some (slots-of s) h x e), omega (arith, within-memory x e))
 
+  pub part-at : (x : Slot) (at from n : ℕ) → at ≡ x .start + from → from + n ≤ x .size → part (bytes-of s) at n ≡ part (segment-of s x .bytes) from n
+  part-at x at from n e le = ap (λ i. part (bytes-of s) i n) e ∙ part-part (bytes-of s) (x .start) (x .size) from n le
+
   pub lie-freed : Lie (extents-in (set (slots-of s) h None)) (memory s)
   lie-freed = subst (λ es. Lie es (memory s)) (sym (slotted.extents-put (slots-of s) h None)) (lie-vacated (extents s) h (memory s) (lies s))
 
@@ -89,7 +92,7 @@ module _ (s : SegmentTable) (h : ℕ) where
   -- y takes the place of a slot that lies where it does
   module _ (y : Slot) (f : Follows s h y) where
     pub follows-inside : h < length (slots-of s)
-    follows-inside = slotted.slot-inside (slots-of s) h (f .0) (f .1)
+    follows-inside = inside (slots-of s) h (f .1)
 
     same-extents : extents-in (set (slots-of s) h (Some y)) ≡ extents s
     same-extents = slotted.extents-kept (slots-of s) h (f .0) y (f .1) (f .2)
@@ -138,7 +141,7 @@ module _ (s : SegmentTable) (h : ℕ) where
         (slotted.patched-here (slots-of s) (bytes-of s) h at from new x e p q (within-memory x e .0)))
 
 -- the slot of a segment that is made at a place
-abbrev pub fresh-slot : Place → SegmentName → ℕ → ℕ → Slot
+abbrev fresh-slot : Place → SegmentName → ℕ → ℕ → Slot
 fresh-slot p n size kind = record { name = Some n; «allocator_id» = kind; start = p .start; size = size; maps = 1 }
 
 module _ (s : SegmentTable) (p : Place) (n : SegmentName) (size kind : ℕ) (place : FreePlace (extents s) (memory s) p size) where
@@ -200,6 +203,14 @@ module _ (s : SegmentTable) (p : Place) (n : SegmentName) (size kind : ℕ) (pla
           others k ne =
               slotted.put-other (slots-of s) B (p .handle) k (Some (fresh-slot p n size kind)) ne
               ∙ slotted.patched-other (slots-of s) (bytes-of s) (p .handle) (p .start) zeros (laid p size) (omega arith) (omega (arith, long)) fits (λ k e ne. place .apart k e) k ne
+
+-- what a store with a rule makes of the rule's answer
+module _ (s : SegmentTable) (rule : Rule) (size : ℕ) where
+  pub unplaced : (n : List ℕ) → GoodName n × (1 ≤ size) × (Named (under rule s) n → ⊥) → None ≡ rule (extents s) size → MakeDenied (under rule s) n size 26 × Same (under rule s) (under rule s)
+  unplaced n wanted none = roomless (under rule s) n size wanted (sym (ap isSome none))
+
+  pub placed : (p : Place) → Some p ≡ rule (extents s) size → rule (extents s) size ≡ Some p
+  placed p e = sym e
 
 pub no-name : (s : SegmentTable) (n : List ℕ) → ((k : ℕ) (x : Slot) → slot-at (slots-of s) k ≡ Some x → name-of x ≡ Some n → ⊥) → (rule : Rule) → Named (under rule s) n → ⊥
 no-name s n f rule (k, g, e, name) = let (x, p, same) = slotted.at-back (slots-of s) (bytes-of s) k g e in f k x p (ap (λ g. g .name) same ∙ name)

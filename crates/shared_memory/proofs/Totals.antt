@@ -1,20 +1,19 @@
 -- Sums over the handles.
-use mathlib.Core.Path.{_≡_, refl, sym, ap, subst, _∙_}
-use mathlib.Core.Bool.{Bool, true, false, cond}
+use mathlib.Core.Path.{_≡_, refl, sym, ap, _∙_}
+use mathlib.Core.Bool.{cond}
 use mathlib.Core.Logic.{_⊎_, inl, inr, ⊎-elim}
 use Prim.Native.Nat.{ℕ, zero, suc, _+_, _<_, _≤_}
 use native.Mathlib.Omega.{arith}
-use lib.Dec.{eqb}
 use Rattle.std.proofs.shelf.Tests.{cases-eq, eq-eqb, ne-eqb}
 use Rattle.shared_memory.specs.Quotas.{total, skipping}
 
 pub by-handle : {f g : ℕ → ℕ} → ((k : ℕ) → f k ≡ g k) → f ≡ g
 by-handle e = λ i k. e k i
 
-pub skip-here : (h : ℕ) (f : ℕ → ℕ) (k : ℕ) → k ≡ h → skipping h f k ≡ 0
+skip-here : (h : ℕ) (f : ℕ → ℕ) (k : ℕ) → k ≡ h → skipping h f k ≡ 0
 skip-here h f k e = ap (λ b. cond b 0 (f k)) (eq-eqb k h e)
 
-pub skip-other : (h : ℕ) (f : ℕ → ℕ) (k : ℕ) → (k ≡ h → ⊥) → skipping h f k ≡ f k
+skip-other : (h : ℕ) (f : ℕ → ℕ) (k : ℕ) → (k ≡ h → ⊥) → skipping h f k ≡ f k
 skip-other h f k ne = ap (λ b. cond b 0 (f k)) (ne-eqb k h ne)
 
 -- g is f, but 0 at h

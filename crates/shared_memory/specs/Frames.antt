@@ -1,10 +1,9 @@
 -- The rule of placing of a store whose memory is cut into equal frames.
 use mathlib.Core.Path.{_≡_}
-use mathlib.Core.Bool.{Bool, cond}
+use mathlib.Core.Bool.{cond}
 use Prim.Native.Nat.{ℕ, _*_, _%_, _^_, _<_, _≤_}
 use lib.Dec.{leb}
 use Rattle.std.specs.Options.{mapped as over}
-use Rattle.std.specs.declared.option.Option.{Option}
 use Rattle.std.specs.declared.option.Option.the-variants.{None, Some}
 use Rattle.shared_memory.specs.declared.table.Place.{Place}
 use Rattle.shared_memory.specs.Extents.{Extent, Extents, Rule, extent-at, first-free}

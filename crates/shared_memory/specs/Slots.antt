@@ -1,11 +1,10 @@
 -- What the slots and the bytes of a table mean.
-use mathlib.Core.Path.{_≡_}
 use mathlib.Core.List.{List, map}
 use Prim.Native.Nat.{ℕ}
 use lib.ListN.{getD}
 use Rattle.std.specs.Options.{mapped as over}
 use Rattle.std.specs.declared.option.Option.{Option}
-use Rattle.std.specs.declared.option.Option.the-variants.{None, Some}
+use Rattle.std.specs.declared.option.Option.the-variants.{None}
 use Rattle.shared_memory.specs.Extents.{Extent, Extents}
 use Rattle.shared_memory.specs.Meaning.{Segment, part}
 use Rattle.shared_memory.specs.Names.{written}

@@ -1,10 +1,8 @@
 -- The rule of placing of a store whose memory is cut into pages.
-use mathlib.Core.Path.{_≡_}
-use mathlib.Core.Bool.{Bool, true, false, cond, not, _&&_, _||_}
-use mathlib.Core.List.{List, [], _∷_}
-use Prim.Native.Nat.{ℕ, zero, suc, _+_, _*_, _/_, _<_, _≤_}
-use lib.Dec.{leb, ltb}
-use Rattle.std.specs.Options.{Cases, mapped as over}
+use mathlib.Core.Bool.{Bool, false, cond, _&&_, _||_}
+use Prim.Native.Nat.{ℕ, zero, suc, _+_, _*_, _/_, _≤_}
+use lib.Dec.{leb}
+use Rattle.std.specs.Options.{mapped as over}
 use Rattle.std.specs.declared.option.Option.{Option}
 use Rattle.std.specs.declared.option.Option.the-variants.{None, Some}
 use Rattle.shared_memory.specs.declared.table.Place.{Place}

@@ -1,10 +1,10 @@
+// Ported from src/shared_memory/mod.rs of crate iceoryx2-cal 0.9.3; see NOTICE.
+
 ghost use Rattle.shared_memory.specs.Faults.{store-number, not-empty-number};
 ghost use Rattle.shared_memory.specs.Meaning.{create-number, open-number, access-number, handle-number};
 ghost use Rattle.shared_memory.specs.declared.fault.StoreError.the-variants.{OutOfMemory};
 ghost use mathlib.Core.Path.{_≡_};
 use std::alloc::AllocError;
-use std::fmt;
-use std::fmt::Display;
 
 // Why a segment was not made.
 #[derive(Clone, Copy, PartialEq, Eq, Debug)]
@@ -96,15 +96,6 @@ impl StoreError {
         match self {
             StoreError::BadStore => Some(6),
             StoreError::OutOfMemory => None,
-        }
-    }
-}
-
-pub impl Display for StoreError as StoreErrorDisplay {
-    fn fmt<W: fmt::Write>(&self, f: &mut fmt::Formatter<W>) -> fmt::Result {
-        match self {
-            StoreError::BadStore => write!(f, "bad store"),
-            StoreError::OutOfMemory => write!(f, "out of memory"),
         }
     }
 }

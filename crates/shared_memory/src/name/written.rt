@@ -1,3 +1,5 @@
+// Ported from src/resizable_shared_memory/dynamic.rs of crate iceoryx2-cal 0.9.3; see NOTICE.
+
 ghost use Prim.Native.Nat.{_+_, _<_, _≤_};
 ghost use Rattle.shared_memory.specs.BaseNames.{GoodBase, name-byte, name-bytes};
 ghost use Rattle.shared_memory.specs.Names.{text, written, name-number, decimal, segment-name, management-name, NamesApart};

@@ -1,10 +1,10 @@
-use mathlib.Core.Path.{_≡_, sym, ap, subst, _∙_}
+use mathlib.Core.Path.{sym, ap, subst, _∙_}
 use mathlib.Core.Logic.{⊎-elim}
-use Prim.Native.Nat.{ℕ, _*_, _<_, _≤_}
+use Prim.Native.Nat.{_*_}
 use native.Mathlib.Omega.{arith}
 use Rattle.std.proofs.shelf.Tests.{cases-lt}
 use Rattle.shared_memory.specs.Extents.{Within}
-use Rattle.shared_memory.specs.Spans.{pages-of, first-run}
+use Rattle.shared_memory.specs.Spans.{first-run}
 use Rattle.shared_memory.specs.Tables.{extents}
 use Rattle.shared_memory.specs.declared.span_store.SpanStore.{SpanStore}
 use Rattle.shared_memory.proofs.Spanning.{passed, goes-on, run-found, run-none}

@@ -3,14 +3,13 @@ use mathlib.Core.Logic.{_⊎_, inl, inr, ⊎-elim}
 use Prim.Native.Nat.{ℕ, _+_, _<_, _≤_}
 use native.Mathlib.Omega.{arith}
 use Rattle.std.proofs.shelf.Tests.{cases-eq}
-use Rattle.std.specs.declared.option.Option.{Option}
-use Rattle.std.specs.declared.option.Option.the-variants.{None, Some}
+use Rattle.std.specs.declared.option.Option.the-variants.{Some}
 use Rattle.shared_memory.specs.Slots.{slot-at, extent}
 use Rattle.shared_memory.specs.Tables.{slots-of, extents}
 use Rattle.shared_memory.specs.declared.table.Slot.{Slot}
 use Rattle.shared_memory.proofs.Clearing.{clear-all}
-use Rattle.shared_memory.proofs.Optional.{none-some, same-some}
-use Rattle.shared_memory.proofs.Slotted.{slot-inside, extent-some, extent-back}
+use Rattle.shared_memory.proofs.Optional.{inside, none-some, same-some}
+use Rattle.shared_memory.proofs.Slotted.{extent-some, extent-back}
 use Rattle.shared_memory.proofs.Tabled.{within-memory}
 use Rattle.shared_memory.proofs.table.SegmentTable.blocker.Needs as need
 use Rattle.shared_memory.proofs.table.SegmentTable.blocker.Needs.{in-Some·else-slot-to, else-slot-to·by·then-slot-to·else-from-end, else-slot-to·by·else-slot-to, in-rest}
@@ -57,4 +56,4 @@ returns c =
     let s = c .args .self .now in
     clear-all (extents s) (c .args .from) (c .args .to) λ k u q lo hi.
     let (x, p, same) = extent-back (slots-of s) k u q in
-    c .loop-handle .inv k x (omega (arith, slot-inside (slots-of s) k x p)) p (omega (arith, ap (λ u. u .start) same)) (omega (arith, ap (λ u. u .start + u .size) same))
+    c .loop-handle .inv k x (omega (arith, inside (slots-of s) k p)) p (omega (arith, ap (λ u. u .start) same)) (omega (arith, ap (λ u. u .start + u .size) same))

@@ -1,6 +1,6 @@
-use mathlib.Core.Path.{_≡_, refl, ap, _∙_}
+use mathlib.Core.Path.{refl, ap, _∙_}
 use native.Mathlib.Omega.{arith}
-use lib.ListN.{length, replicate}
+use lib.ListN.{replicate}
 use Rattle.shared_memory.specs.Meaning.{patched}
 use Rattle.shared_memory.proofs.Tabled.{refilled-bytes, refilled-facts}
 use Rattle.shared_memory.proofs.table.SegmentTable.clear.Needs as need

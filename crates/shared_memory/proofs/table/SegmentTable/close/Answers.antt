@@ -1,4 +1,4 @@
-use mathlib.Core.Path.{refl, sym}
+use mathlib.Core.Path.{sym}
 use native.Mathlib.Omega.{arith}
 use Rattle.shared_memory.specs.Tables.{segment-of}
 use Rattle.shared_memory.proofs.Tabled.{at-slot}

@@ -1,7 +1,6 @@
-use mathlib.Core.Path.{sym, ap, subst, _∙_}
-use Prim.Native.Nat.{_<_}
+use mathlib.Core.Path.{ap}
 use native.Mathlib.Omega.{arith}
-use lib.ListN.{length, set}
+use lib.ListN.{length}
 use Rattle.shared_memory.proofs.Tabled.{place-inside, lie-made, relaid-made, made-at}
 use Rattle.shared_memory.proofs.table.SegmentTable.occupy.Needs as need
 

@@ -1,6 +1,5 @@
-use mathlib.Core.Path.{_≡_, refl, ap, _∙_}
+use mathlib.Core.Path.{refl, ap, _∙_}
 use native.Mathlib.Omega.{arith}
-use lib.ListN.{length}
 use Rattle.shared_memory.specs.Meaning.{patched}
 use Rattle.shared_memory.proofs.Tabled.{refilled-bytes, refilled-facts}
 use Rattle.shared_memory.proofs.table.SegmentTable.overwrite.Needs as need

@@ -1,11 +1,9 @@
 use mathlib.Core.Path.{refl, sym, ap, _∙_}
-use Prim.Native.Nat.{_+_}
 use native.Mathlib.Omega.{arith}
 use lib.ListN.{length}
 use Rattle.shared_memory.specs.Meaning.{AccessDenied, part}
-use Rattle.shared_memory.specs.Tables.{bytes-of, segment-of}
-use Rattle.shared_memory.proofs.Overwriting.{part-part}
-use Rattle.shared_memory.proofs.Tabled.{at-slot, at-none, within-memory, segment-length}
+use Rattle.shared_memory.specs.Tables.{segment-of}
+use Rattle.shared_memory.proofs.Tabled.{at-slot, at-none, within-memory, segment-length, part-at}
 use Rattle.shared_memory.proofs.table.SegmentTable.read.Needs as need
 
 pub returns-in-rest : need.returns-in-rest
@@ -35,6 +33,5 @@ returns c rule =
       at-slot s h x e,
       omega (arith, segment-length s h x e, p),
       c .copy-out .ensures
-          ∙ (ap (λ xs. part xs (c .in-Some-place .at) n) (c .as-slice .ensures .value)
-          ∙ (ap (λ i. part (bytes-of s) i n) (p .1) ∙ part-part (bytes-of s) (x .start) (x .size) (c .args .from) n (p .0))),
+          ∙ (ap (λ xs. part xs (c .in-Some-place .at) n) (c .as-slice .ensures .value) ∙ part-at s h x (c .in-Some-place .at) (c .args .from) n (p .1) (p .0)),
     )
