@@ -9,7 +9,7 @@ if [ $# -ne 1 ]; then
     exit 2
 fi
 here=$(cd "$(dirname "$0")" && pwd)
-recorded=$here/../recorded
+recorded=$here/../crates/crate_answers/data
 . "$here/sample.sh"
 work=$(mktemp -d)
 trap 'rm -rf "$work"' EXIT

@@ -1,5 +1,5 @@
 #!/bin/sh
-# Asks the crate anew and writes its answers into recorded/.
+# Asks the crate anew and writes its answers into crates/crate_answers/data/.
 #
 #   record.sh CRATE_SRC_DIR
 #
@@ -11,7 +11,7 @@ if [ $# -ne 1 ]; then
     exit 2
 fi
 here=$(cd "$(dirname "$0")" && pwd)
-recorded=$here/../recorded
+recorded=$here/../crates/crate_answers/data
 . "$here/sample.sh"
 work=$(mktemp -d)
 trap 'rm -rf "$work"' EXIT
