@@ -1,0 +1,11 @@
+mod Shifting
+mod Listing
+mod Searching
+mod Counting
+mod Tallying
+mod Withdrawing
+mod Turning
+mod Storing
+mod Rounding
+mod Layouts
+mod Creating

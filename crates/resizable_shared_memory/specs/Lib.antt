@@ -1,0 +1,10 @@
+pub mod Faults
+pub mod Places
+pub mod Entries
+pub mod Ledgers
+pub mod Withdrawals
+pub mod Moves
+pub mod Parts
+pub mod Segments
+pub mod Memory
+pub mod Creation
