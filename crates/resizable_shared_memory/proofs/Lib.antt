@@ -9,3 +9,5 @@ mod Storing
 mod Rounding
 mod Layouts
 mod Creating
+mod Reopening
+mod Viewing

@@ -8,3 +8,7 @@ pub mod Parts
 pub mod Segments
 pub mod Memory
 pub mod Creation
+pub mod Closings
+pub mod CurrentPlaces
+pub mod ViewFaults
+pub mod Viewer

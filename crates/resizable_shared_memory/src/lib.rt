@@ -5,3 +5,4 @@ pub mod memory;
 pub mod record;
 mod segment;
 mod table;
+pub mod view;

@@ -3,6 +3,7 @@ ghost use lib.ListN.{length};
 ghost use mathlib.Core.Path.{_≡_};
 
 mod access;
+mod closing;
 mod withdrawal;
 
 // A mapped segment: its handle and address, its bucket size (0 without buckets) and a count.
