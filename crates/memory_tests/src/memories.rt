@@ -16,6 +16,7 @@ pub fn layout(size: u64, align: u64) -> Layout {
     Layout { size, align }
 }
 
+// A store that gives the handle 0 to the management segment, and 1, 2 and so on to the others.
 pub fn frames(heap: Global, count: usize) -> Result<FrameStore, Fail> {
     Ok(FrameStore::new(heap, count, 4096)?)
 }

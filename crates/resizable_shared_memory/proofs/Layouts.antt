@@ -1,5 +1,5 @@
 -- A valid layout is known by its two numbers.
-use mathlib.Core.Path.{_≡_, ap, sym, subst, _∙_}
+use mathlib.Core.Path.{_≡_, ap, subst, _∙_}
 use mathlib.Core.Logic.{∥∥₁-prop}
 use Prim.Native.Nat.{ℕ, _≤_}
 use native.Mathlib.Bridge.{le-prop}

@@ -6,7 +6,7 @@ use Prim.Native.Nat.{ℕ, suc, _+_, _-_, _≤_, _<_}
 use native.Mathlib.Omega.{arith}
 use lib.ListN.{length, take, drop, getD, set, length-take, length-map}
 use Rattle.std.proofs.shelf.Edits.{length-removed, getD-removed-below, getD-removed-above}
-use Rattle.std.proofs.shelf.Lists.{getD-append-left, getD-default, getD-map, getD-push, getD-take, length-push, map-push, take-map, drop-map, take-more-set}
+use Rattle.std.proofs.shelf.Lists.{getD-append-left, getD-map, getD-push, getD-take, length-push, map-push, take-map, drop-map, take-more-set}
 use Rattle.std.proofs.shelf.Tests.{cases-lt}
 use Rattle.std.specs.Holes.{removed}
 use Rattle.resizable_shared_memory.specs.Entries.{Entry, entry, entries-in, entry-at, no-entry, Rises}

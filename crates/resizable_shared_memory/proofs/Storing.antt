@@ -1,5 +1,5 @@
 -- Stores that are the same, and segments that are made or denied.
-use mathlib.Core.Path.{_≡_, refl, subst}
+use mathlib.Core.Path.{_≡_, refl, subst, subst₂}
 use mathlib.Core.Bool.{true}
 use mathlib.Core.List.{List}
 use Prim.Native.Nat.{ℕ, _≤_}
@@ -15,6 +15,11 @@ use Rattle.resizable_shared_memory.specs.Segments.{SegmentDenied, MakesSegment
 
 pub same : (s : Store) → Same s s
 same s = record { at = λ h. refl; room-without = λ hs z. refl; room-with = λ k z. refl }
+
+-- What came of the wish for a segment, under other terms for its name and its hint.
+pub made-as : {A C : Type 0} (α : Meaning A C) (s t : Store) (r : Result Opened SharedMemoryCreateError) {m n : List ℕ} {g h : SharedMemorySetupHint C} → m ≡ n → g ≡ h
+    → MakesSegment α s m g r t → MakesSegment α s n h r t
+made-as {A} {C} α s t r name hint = subst₂ (λ (n : List ℕ) (h : SharedMemorySetupHint C). MakesSegment α s n h r t) name hint
 
 -- A store was asked for a segment of the name n from the hint h, where nothing but want of room can be in the way.
 module _ {A C : Type 0} (α : Meaning A C) (s t : Store) (n : List ℕ) (h : SharedMemorySetupHint C)

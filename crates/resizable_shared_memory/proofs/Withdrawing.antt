@@ -1,26 +1,28 @@
 -- What is left of a table's invariant when a place is put, left or lowered.
 use mathlib.Core.Path.{_≡_, refl, ap, sym, subst, _∙_}
-use mathlib.Core.Bool.{Bool, true, false}
+use mathlib.Core.Bool.{true, false}
 use mathlib.Core.List.{List, [], _∷_, _++_}
-use mathlib.Core.Logic.{_⊎_, inl, inr, ⊎-elim}
-use Prim.Native.Nat.{ℕ, _+_, _-_, _≤_, _<_}
+use mathlib.Core.Logic.{⊎-elim}
+use Prim.Native.Nat.{ℕ, _+_, _≤_, _<_}
 use native.Mathlib.Omega.{arith}
 use Rattle.std.proofs.shelf.Lists.{getD-past}
 use Rattle.std.proofs.shelf.Tests.{cases-eq, cases-lt, both-ways}
+use Rattle.std.specs.Holes.{removed}
 use Rattle.std.specs.Options.{isSome}
 use Rattle.std.specs.declared.option.Option.{Option}
 use Rattle.std.specs.declared.option.Option.the-variants.{None, Some}
 use Rattle.shared_memory.specs.Meaning.{Store}
 use Rattle.pointer_offset.specs.Packing.{id-of}
-use Rattle.resizable_shared_memory.specs.Entries.{Entry, entry-at, tally}
-use Rattle.resizable_shared_memory.specs.Ledgers.{entries-of, Counted}
+use Rattle.resizable_shared_memory.specs.Entries.{Entry, entry, tally}
+use Rattle.resizable_shared_memory.specs.Ledgers.{entries-of, Lists, Counted}
 use Rattle.resizable_shared_memory.specs.Places.{place-of, count-of, Ahead, Busy, Put}
 use Rattle.resizable_shared_memory.specs.Withdrawals.{Leaves, Lowers}
+use Rattle.resizable_shared_memory.specs.declared.ledger.Held.{Held}
 use Rattle.resizable_shared_memory.specs.declared.ledger.Ledger.{Ledger}
 use Rattle.resizable_shared_memory.specs.declared.table.Place.{Place}
 use Rattle.resizable_shared_memory.specs.declared.table.Table.{Table}
 use Rattle.resizable_shared_memory.proofs.Listing.{length-of}
-use Rattle.resizable_shared_memory.proofs.Tallying.{one, one-here, none-here, tally-push, tally-less}
+use Rattle.resizable_shared_memory.proofs.Tallying.{one, one-here, none-here, tally-push, tally-removed}
 
 pub some-of : {X : Type 0} (o : Option X) → isSome o ≡ true → (x : X) × (o ≡ Some x)
 some-of None e = absurd (both-ways false refl e)
@@ -39,11 +41,14 @@ mapped-below t k is =
 abbrev pub Follows : Table → List Entry → Type 0
 Follows t es = (k : ℕ) → count-of (place-of t k) ≡ tally k es
 
--- A chunk that stands in a ledger is counted in its segment.
-pub counted-there : (l : Ledger) (t : Table) (at : ℕ) (x : Entry) (v k : ℕ) → Counted t l → at < l .len → x ≡ entry-at (entries-of l) at → x .value ≡ v → k ≡ id-of v → 1 ≤ count-of (place-of t k)
-counted-there l t at x v k counts within is value id =
-    let less = tally-less (entries-of l) at x (omega (arith, length-of l)) is k in
-    omega (arith, counts k, less, one-here k x (ap id-of value ∙ sym id))
+-- A chunk that stands in a ledger is one of those of its segment, and is counted there.
+module _ (l : Ledger) (v g at : ℕ) (h : Held) (lists : Lists l v g at h) where
+  pub tally-less : (k : ℕ) → tally k (entries-of l) ≡ tally k (removed (entries-of l) at) + one k (entry h)
+  tally-less k =
+      tally-removed k (entries-of l) at (omega (arith, length-of l, lists .within)) ∙ ap (λ (x : Entry). tally k (removed (entries-of l) at) + one k x) (lists .here)
+
+  pub counted-there : (t : Table) (k : ℕ) → k ≡ id-of v → Counted t l → 1 ≤ count-of (place-of t k)
+  counted-there t k id counts = omega (arith, counts k, tally-less k, one-here k (entry h) (ap id-of (lists .value-is) ∙ sym id))
 
 -- Only the place of the id i may differ.
 abbrev pub Others : Table → ℕ → Table → Type 0

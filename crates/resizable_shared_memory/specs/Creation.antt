@@ -50,7 +50,7 @@ module _ {A C : Type 0} (α : Meaning A C) where
         → CreationDenied n l count s (creating.SharedMemoryCreateError e)
 
   -- The segments that a creation makes: the management segment o, and then segment 0, which is q, from the hint for v.
-  pub record Makes-both (n : List ℕ) (l : Layout) (count : ℕ) (s : Store) (v : ValidLayout) (o q : Opened) (t : Store) : Type 0 where
+  pub record MakesBoth (n : List ℕ) (l : Layout) (count : ℕ) (s : Store) (v : ValidLayout) (o q : Opened) (t : Store) : Type 0 where
     pub good : GoodBase n
     pub size : v .size ≡ l .size
     pub align : v .align ≡ l .align
@@ -66,7 +66,7 @@ module _ {A C : Type 0} (α : Meaning A C) where
   -- What a creation comes to, once its record became a memory.
   abbrev pub Creates : List ℕ → Layout → ℕ → AllocationStrategy → Store → Result (DynamicMemory A) ResizableShmCreateError → Store → Type 0
   Creates n l count way s (Err e) t = CreationDenied n l count s e × SameSegmentsAndRoom s t
-  Creates n l count way s (Ok m) t = (v : ValidLayout) × (o : Opened) × (q : Opened) × Makes-both n l count s v o q t × Created n way (α .initial v count) o q m
+  Creates n l count way s (Ok m) t = (v : ValidLayout) × (o : Opened) × (q : Opened) × MakesBoth n l count s v o q t × Created n way (α .initial v count) o q m
 
   -- What is written down of a creation.
   pub record Recorded (n : List ℕ) (way : AllocationStrategy) (h : SharedMemorySetupHint C) (o q : Opened) (x : CreationRecord C) : Type 0 where
@@ -80,7 +80,7 @@ module _ {A C : Type 0} (α : Meaning A C) where
   -- What a creation answers.
   abbrev pub CreatesRecord : List ℕ → Layout → ℕ → AllocationStrategy → Store → Result (CreationRecord C) ResizableShmCreateError → Store → Type 0
   CreatesRecord n l count way s (Err e) t = CreationDenied n l count s e × SameSegmentsAndRoom s t
-  CreatesRecord n l count way s (Ok x) t = (v : ValidLayout) × (o : Opened) × (q : Opened) × Makes-both n l count s v o q t × Recorded n way (α .initial v count) o q x
+  CreatesRecord n l count way s (Ok x) t = (v : ValidLayout) × (o : Opened) × (q : Opened) × MakesBoth n l count s v o q t × Recorded n way (α .initial v count) o q x
 
   -- The memory that a record becomes.
   pub record Becomes (x : CreationRecord C) (m : DynamicMemory A) : Type 0 where

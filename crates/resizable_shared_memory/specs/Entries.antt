@@ -1,5 +1,4 @@
 -- Held chunks, as a ledger lists them.
-use mathlib.Core.Path.{_≡_}
 use mathlib.Core.Bool.{Bool, cond, _&&_}
 use mathlib.Core.List.{List, [], _∷_, map}
 use Prim.Native.Nat.{ℕ, _+_, _<_, _≤_}
@@ -37,8 +36,8 @@ abbrev pub Rises : List Entry → Type 0
 Rises es = (i j : ℕ) → (i < j) × (j < length es) → entry-at es i .grant < entry-at es j .grant
 
 -- No entry has a grant above g.
-abbrev pub Granted-by : List Entry → ℕ → Type 0
-Granted-by es g = (i : ℕ) → i < length es → entry-at es i .grant ≤ g
+abbrev pub GrantedUpTo : List Entry → ℕ → Type 0
+GrantedUpTo es g = (i : ℕ) → i < length es → entry-at es i .grant ≤ g
 
 -- Whether an entry has this value and this grant.
 abbrev pub matches : ℕ → ℕ → Entry → Bool

@@ -56,10 +56,16 @@ module _ {A C : Type 0} (α : Meaning A C) where
     no-segment : {e : SharedMemoryCreateError} {t : Store} → current m < 255
         → MakesSegment α s (segment-name (base m) (current m + 1)) (hint-for m l) (Err e) t → GrowthRefused m s l (fault.SharedMemoryCreateError e) t
 
-  -- What follows a refusal e of the current segment's allocator: a growth, unless the strategy forbids it or it is refused.
+  -- What the wish to grow comes to.
+  abbrev pub Grows : DynamicMemory A → Store → ValidLayout → Result (Unit {0}) ResizableShmAllocationError → DynamicMemory A → Store → Type 0
+  Grows m s l (Ok done) n t = Grown m s l n t
+  Grows m s l (Err f) n t = (n ≡ m) × GrowthRefused m s l f t
+
+  -- What follows a refusal e of the current segment's allocator: it stands where the strategy forbids to grow.
   abbrev pub MakesRoom : DynamicMemory A → Store → ValidLayout → ShmAllocationError → Result (Unit {0}) ResizableShmAllocationError → DynamicMemory A → Store → Type 0
-  MakesRoom m s l e (Ok done) n t = (m .tables .strategy ≡ Static → ⊥) × Grown m s l n t
-  MakesRoom m s l e (Err f) n t = (n ≡ m) × (((m .tables .strategy ≡ Static) × (f ≡ fault.ShmAllocationError e) × (t ≡ s)) ⊎ ((m .tables .strategy ≡ Static → ⊥) × GrowthRefused m s l f t))
+  MakesRoom m s l e r n t =
+      ((m .tables .strategy ≡ Static) × (r ≡ Err (fault.ShmAllocationError e)) × (n ≡ m) × (t ≡ s))
+      ⊎ ((m .tables .strategy ≡ Static → ⊥) × Grows m s l r n t)
 
   -- The current segment's allocator gave the start o, which became the chunk c.
   pub record Granted (m : DynamicMemory A) (l : ValidLayout) (o : ℕ) (c : Chunk) (n : DynamicMemory A) : Type 0 where

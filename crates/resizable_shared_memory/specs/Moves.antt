@@ -2,16 +2,18 @@
 use mathlib.Core.Path.{_≡_}
 use mathlib.Core.List.{List, [], _∷_, _++_}
 use Prim.Native.Nat.{ℕ, _+_}
+use Rattle.std.specs.declared.option.Option.{Option}
 use Rattle.std.specs.declared.option.Option.the-variants.{None, Some}
 use Rattle.pointer_offset.specs.Packing.{packed, id-of}
 use Rattle.shared_memory.specs.declared.fault.Opened.{Opened}
 use Rattle.shared_memory.specs.Meaning.{Store}
 use Rattle.shared_memory.specs.Names.{text}
 use Rattle.shm_allocator.specs.declared.AllocationStrategy.{AllocationStrategy}
-use Rattle.resizable_shared_memory.specs.Entries.{Entry, find, without}
+use Rattle.resizable_shared_memory.specs.Entries.{Entry, entry, find, without}
 use Rattle.resizable_shared_memory.specs.Ledgers.{entries-of}
 use Rattle.resizable_shared_memory.specs.Places.{place-of, Numbers}
 use Rattle.resizable_shared_memory.specs.Withdrawals.{Vacates, Lowers}
+use Rattle.resizable_shared_memory.specs.declared.ledger.Held.{Held}
 use Rattle.resizable_shared_memory.specs.declared.memory.Chunk.{Chunk}
 use Rattle.resizable_shared_memory.specs.declared.memory.Tables.{Tables}
 use Rattle.resizable_shared_memory.specs.declared.table.Place.{Place}
@@ -72,3 +74,13 @@ pub record Releases (m : Tables) (s : Store) (c : Entry) (n : Tables) (t : Store
   pub grants : n .given ≡ m .given
   pub stays : n .current .0 ≡ m .current .0
   pub kept : Kept m n
+
+-- What the wish to release a chunk comes to.
+abbrev pub ReleasesHeld : ℕ → ℕ → Tables → Store → Option Held → Tables → Store → Type 0
+ReleasesHeld value grant m s None n t = (find value grant (entries-of (m .ledger)) ≡ None) × (n ≡ m) × (t ≡ s)
+ReleasesHeld value grant m s (Some h) n t = (find value grant (entries-of (m .ledger)) ≡ Some (entry h)) × Releases m s (entry h) n t
+
+-- A held chunk with the place of its segment, or that there is none.
+abbrev pub Reaches : ℕ → ℕ → Tables → Option (Held × Place) → Type 0
+Reaches value grant m None = find value grant (entries-of (m .ledger)) ≡ None
+Reaches value grant m (Some f) = (find value grant (entries-of (m .ledger)) ≡ Some (entry (f .0))) × (place-of (m .table) (id-of value) ≡ Some (f .1))

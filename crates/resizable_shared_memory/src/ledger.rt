@@ -7,6 +7,8 @@ use pointer_offset::SegmentId;
 mod entries;
 mod search;
 
+const CAPACITY: usize = 1024;
+
 // A chunk that is held: its segment and start, the number of its grant and how many bytes were asked.
 #[derive(Clone, Copy)]
 pub struct Held {
@@ -19,7 +21,7 @@ pub struct Held {
 // The chunks that are held, the oldest first.
 #[derive(Clone, Copy)]
 pub struct Ledger {
-    entries: [Held; 1024],
+    entries: [Held; CAPACITY],
     len: usize,
     ghost within: { len ≤ 1024 },
     ghost whole: { length entries ≡ 1024 },

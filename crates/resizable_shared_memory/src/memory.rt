@@ -1,4 +1,6 @@
-ghost use Rattle.resizable_shared_memory.specs.Entries.{entries-in, Granted-by};
+// Ported from src/resizable_shared_memory/dynamic.rs of crate iceoryx2-cal 0.9.3; see NOTICE.
+
+ghost use Rattle.resizable_shared_memory.specs.Entries.{GrantedUpTo};
 ghost use Rattle.resizable_shared_memory.specs.Ledgers.{entries-of, Counted};
 ghost use Rattle.resizable_shared_memory.specs.Places.{place-of, Ahead, Busy};
 ghost use Rattle.std.specs.Options.{isSome};
@@ -37,10 +39,10 @@ pub struct Tables {
     ghost ahead: { Ahead table (current .0) },
     ghost busy: { Busy table (current .0) },
     ghost counted: { Counted table ledger },
-    ghost granted: { Granted-by (entries-of ledger) given },
+    ghost granted: { GrantedUpTo (entries-of ledger) given },
 }
 
-// A memory of segments, each larger than the one before, from which the allocator of the current one gives chunks.
+// A memory of one or more segments. Chunks come from the current one, whose allocator is kept.
 #[derive(Drop)]
 pub struct DynamicMemory<A> {
     allocator: A,

@@ -6,6 +6,7 @@ ghost use Rattle.std.specs.Orderings.{When};
 ghost use lib.ListN.{length, take};
 ghost use mathlib.Core.List.{[], _∷_, _++_};
 ghost use mathlib.Core.Path.{_≡_};
+use super::CAPACITY;
 use super::Held;
 use super::Ledger;
 use pointer_offset::PointerOffset;
@@ -43,7 +44,7 @@ impl Ledger {
             size: 0,
         };
         Ledger {
-            entries: [unused; 1024],
+            entries: [unused; CAPACITY],
             len: 0,
         }
     }
@@ -51,7 +52,7 @@ impl Ledger {
     pub(crate) fn is_full(&self) -> bool
         ensures { λ r. ⌜ When r (length (entries-of (now (self .entry))) ≡ 1024) (length (entries-of (now (self .entry))) < 1024) ⌝ }
     {
-        self.len == 1024
+        self.len == CAPACITY
     }
 
     // Enters a chunk that was granted after all the others.

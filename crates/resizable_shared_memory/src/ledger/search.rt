@@ -1,9 +1,8 @@
 ghost use Prim.Native.Nat.{ℕ, _<_};
-ghost use Rattle.resizable_shared_memory.specs.Entries.{entry, entry-at, find, without};
-ghost use Rattle.resizable_shared_memory.specs.Ledgers.{entries-of};
-ghost use Rattle.std.specs.Holes.{removed};
+ghost use Rattle.resizable_shared_memory.specs.Entries.{entry-at, find};
+ghost use Rattle.resizable_shared_memory.specs.Ledgers.{entries-of, Lists};
 ghost use Rattle.std.specs.Options.{Cases};
-ghost use Rattle.std.specs.declared.option.Option.the-variants.{None, Some};
+ghost use Rattle.std.specs.declared.option.Option.the-variants.{None};
 ghost use mathlib.Core.Path.{_≡_};
 use super::Held;
 use super::Ledger;
@@ -33,7 +32,7 @@ impl Ledger {
 
     // The chunk with this value and this grant, if it is held, and its place.
     pub(crate) fn find(&self, offset: PointerOffset, grant: u64) -> Option<(usize, Held)>
-        ensures { λ r. ⌜ Cases r (find (offset .0) grant (entries-of (now (self .entry))) ≡ None) (λ f. (f .0 < now (self .entry) .len) × (entry (f .1) ≡ entry-at (entries-of (now (self .entry))) (f .0)) × (find (offset .0) grant (entries-of (now (self .entry))) ≡ Some (entry (f .1))) × (without (offset .0) grant (entries-of (now (self .entry))) ≡ removed (entries-of (now (self .entry))) (f .0))) ⌝ }
+        ensures { λ r. ⌜ Cases r (find (offset .0) grant (entries-of (now (self .entry))) ≡ None) (λ f. Lists (now (self .entry)) (offset .0) grant (f .0) (f .1)) ⌝ }
     {
         let at = self.position(grant)?;
         let held = self.entries[at];

@@ -1,8 +1,6 @@
 // Ported from src/resizable_shared_memory/dynamic.rs of crate iceoryx2-cal 0.9.3; see NOTICE.
 
-ghost use Rattle.resizable_shared_memory.specs.Memory.{Grown, GrowthRefused, MakesRoom};
-ghost use Rattle.std.specs.Results.{Cases};
-ghost use mathlib.Core.Path.{_≡_};
+ghost use Rattle.resizable_shared_memory.specs.Memory.{Grows, MakesRoom};
 use super::DynamicMemory;
 use crate::fault::AllocationErrorFromAllocator;
 use crate::fault::AllocationErrorFromStore;
@@ -37,7 +35,7 @@ impl<A: ShmAllocator> DynamicMemory<A> {
         store: &mut S,
         layout: ValidLayout,
     ) -> Result<(), ResizableShmAllocationError>
-        ensures { λ r. ⌜ Cases r (λ _. Grown (A·ShmAllocator .means) (now (self .entry)) (S·SegmentStore .means (now (store .entry))) layout (now (self .exit)) (S·SegmentStore .means (now (store .exit)))) (λ e. GrowthRefused (A·ShmAllocator .means) (now (self .entry)) (S·SegmentStore .means (now (store .entry))) layout e (S·SegmentStore .means (now (store .exit))) × (now (self .exit) ≡ now (self .entry))) ⌝ }
+        ensures { λ r. ⌜ Grows (A·ShmAllocator .means) (now (self .entry)) (S·SegmentStore .means (now (store .entry))) layout r (now (self .exit)) (S·SegmentStore .means (now (store .exit))) ⌝ }
     {
         let id = self.tables.current.value();
         if id == SegmentId::max_segment_id() {

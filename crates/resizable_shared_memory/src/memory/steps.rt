@@ -1,16 +1,10 @@
 // Ported from src/resizable_shared_memory/dynamic.rs of crate iceoryx2-cal 0.9.3; see NOTICE.
 
 ghost use Prim.Native.Nat.{_-_, _^_, _<_};
-ghost use Rattle.pointer_offset.specs.Packing.{id-of};
-ghost use Rattle.resizable_shared_memory.specs.Entries.{entry, find};
 ghost use Rattle.resizable_shared_memory.specs.Ledgers.{entries-of};
-ghost use Rattle.resizable_shared_memory.specs.Moves.{Advances, Begins, Enters, Releases};
-ghost use Rattle.resizable_shared_memory.specs.Places.{place-of};
+ghost use Rattle.resizable_shared_memory.specs.Moves.{Advances, Begins, Enters, ReleasesHeld, Reaches};
 ghost use Rattle.shared_memory.specs.Names.{text};
-ghost use Rattle.std.specs.Options.{Cases};
-ghost use Rattle.std.specs.declared.option.Option.the-variants.{None, Some};
 ghost use lib.ListN.{length};
-ghost use mathlib.Core.Path.{_≡_};
 use super::Chunk;
 use super::Tables;
 use crate::ledger::Held;
@@ -99,7 +93,7 @@ impl Tables {
         offset: PointerOffset,
         grant: u64,
     ) -> Option<Held>
-        ensures { λ r. ⌜ Cases r ((find (offset .0) grant (entries-of (now (self .entry) .ledger)) ≡ None) × (now (self .exit) ≡ now (self .entry)) × (S·SegmentStore .means (now (store .exit)) ≡ S·SegmentStore .means (now (store .entry)))) (λ h. (find (offset .0) grant (entries-of (now (self .entry) .ledger)) ≡ Some (entry h)) × Releases (now (self .entry)) (S·SegmentStore .means (now (store .entry))) (entry h) (now (self .exit)) (S·SegmentStore .means (now (store .exit)))) ⌝ }
+        ensures { λ r. ⌜ ReleasesHeld (offset .0) grant (now (self .entry)) (S·SegmentStore .means (now (store .entry))) r (now (self .exit)) (S·SegmentStore .means (now (store .exit))) ⌝ }
     {
         let found = self.ledger.find(offset, grant)?;
         let (at, held) = found;
@@ -110,7 +104,7 @@ impl Tables {
 
     // A chunk that is held, and the place of its segment.
     pub(super) fn reach(&self, offset: PointerOffset, grant: u64) -> Option<(Held, Place)>
-        ensures { λ r. ⌜ Cases r (find (offset .0) grant (entries-of (now (self .entry) .ledger)) ≡ None) (λ p. (find (offset .0) grant (entries-of (now (self .entry) .ledger)) ≡ Some (entry (p .0))) × (place-of (now (self .entry) .table) (id-of (offset .0)) ≡ Some (p .1))) ⌝ }
+        ensures { λ r. ⌜ Reaches (offset .0) grant (now (self .entry)) r ⌝ }
     {
         let found = self.ledger.find(offset, grant)?;
         let (_, held) = found;

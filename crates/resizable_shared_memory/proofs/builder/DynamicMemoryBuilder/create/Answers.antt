@@ -1,17 +1,14 @@
 -- Each denial comes in its order, and leaves the store as it was.
-use mathlib.Core.Path.{_≡_, refl, ap, subst, subst₂}
+use mathlib.Core.Path.{refl, ap}
 use mathlib.Core.List.{List}
 use Prim.Native.Nat.{ℕ}
 use Rattle.std.proofs.shelf.Results.{err-from-errBy}
 use Rattle.std.specs.declared.result.Result.the-variants.{Ok, Err}
-use Rattle.shared_memory.specs.Meaning.{create-number}
 use Rattle.shared_memory.specs.Names.{management-name, segment-name}
 use Rattle.shm_allocator.specs.declared.SharedMemorySetupHint.{SharedMemorySetupHint}
-use Rattle.resizable_shared_memory.specs.Creation.{management-hint}
 use Rattle.resizable_shared_memory.specs.Creation.CreationDenied.{bad-name, bad-layout, no-management, no-segment}
-use Rattle.resizable_shared_memory.specs.Segments.{SegmentDenied, MakesSegment}
 use Rattle.resizable_shared_memory.proofs.Creating.{same-room, undone}
-use Rattle.resizable_shared_memory.proofs.Storing.{same}
+use Rattle.resizable_shared_memory.proofs.Storing.{same, made-as}
 use Rattle.resizable_shared_memory.proofs.builder.DynamicMemoryBuilder.create.Needs as need
 
 pub returns-in-Break-base : need.returns-in-Break-base
@@ -28,9 +25,9 @@ returns-in-Break-management g c =
     let α = g .A·ShmAllocator .means in
     let s = g .S·SegmentStore .means (c .args .store .now) in
     let base = c .in-Continue-base .ensures tt in
-    let denied = c .in-Break-management .ensures tt in
+    let denied = made-as α s _ (Err (c .in-Break-management .field-0 .0)) (ap management-name (base .1)) refl (c .in-Break-management .ensures tt) in
     rw (p .1, p .2) (
-      no-management (base .0) (c .in-Some .ensures tt .0) (subst (λ (n : List ℕ). SegmentDenied α s (management-name n) (management-hint α) (create-number (c .in-Break-management .field-0 .0))) (base .1) (denied .0)),
+      no-management (base .0) (c .in-Some .ensures tt .0) (denied .0),
       same-room (denied .1),
     )
 
@@ -42,13 +39,12 @@ returns-in-Break-segment g c =
     let between = g .S·SegmentStore .means (c .make-management .last .store) in
     let base = c .in-Continue-base .ensures tt in
     let o = c .in-Continue-management .management in
-    let made = c .in-Continue-management .ensures tt in
+    let made = made-as α s between (Ok o) (ap management-name (base .1)) refl (c .in-Continue-management .ensures tt) in
     let denied = c .in-Break-segment .ensures tt in
+    let first = made-as α between (denied .0) (Err (c .in-Break-segment .field-0 .0)) (ap (λ (n : List ℕ). segment-name n 0) (base .1)) (c .initial-setup-hint-hint .ensures) (denied .1) in
     rw (p .1, p .2) (
-      no-segment (c .in-Some .layout) (base .0) (c .in-Some .ensures tt .1) (c .in-Some .ensures tt .2)
-          (subst (λ (n : List ℕ). MakesSegment α s (management-name n) (management-hint α) (Ok o) between) (base .1) made)
-          (subst₂ (λ (n : List ℕ) (h : SharedMemorySetupHint (g .A·Configuration .Denot)). SegmentDenied α between (segment-name n 0) h (create-number (c .in-Break-segment .field-0 .0))) (base .1) (c .initial-setup-hint-hint .ensures) (denied .1 .0)),
-      undone s between (denied .0) _ _ _ _ o (made .2) (denied .1 .1) (denied .2),
+      no-segment (c .in-Some .layout) (base .0) (c .in-Some .ensures tt .1) (c .in-Some .ensures tt .2) made (first .0),
+      undone s between (denied .0) _ _ _ _ o (made .2) (first .1) (denied .2),
     )
 
 pub returns : need.returns
@@ -70,8 +66,8 @@ returns g c =
         size = c .in-Some .ensures tt .1;
         align = c .in-Some .ensures tt .2;
         between = between;
-        management = subst (λ (n : List ℕ). MakesSegment α s (management-name n) (management-hint α) (Ok o) between) (base .1) (c .in-Continue-management .ensures tt);
-        first = subst₂ (λ (n : List ℕ) (h : SharedMemorySetupHint (g .A·Configuration .Denot)). MakesSegment α between (segment-name n 0) h (Ok q) t) (base .1) hinted (c .in-Continue-segment .ensures tt);
+        management = made-as α s between (Ok o) (ap management-name (base .1)) refl (c .in-Continue-management .ensures tt);
+        first = made-as α between t (Ok q) (ap (λ (n : List ℕ). segment-name n 0) (base .1)) hinted (c .in-Continue-segment .ensures tt);
       },
       record {
         name = base .1;

@@ -1,5 +1,5 @@
 -- The entry of a grant is the only one that can match.
-use mathlib.Core.Path.{_≡_, ap, sym, subst, _∙_}
+use mathlib.Core.Path.{ap, sym, _∙_}
 use Prim.Native.Nat.{_<_}
 use native.Mathlib.Omega.{arith}
 use lib.ListN.{length}
@@ -32,6 +32,13 @@ returns c =
     let found = c .in-Continue-at .ensures tt in
     let within : i < length (entries-of l) = omega (arith, length-of l) in
     let is = entry-of l i (found .0) in
-    let value = ap (λ (e : Entry). e .value) is ∙ (sym (c .offset .ensures) ∙ (sym (c .as-value .ensures) ∙ (c .if-as-value .left ∙ c .as-value-2 .ensures))) in
-    let hit = find-hit (c .args .offset .0) (c .args .grant) (entries-of l) (l .rising) i within (found .1) value in
-    (found .0, sym is, hit .0 ∙ ap Some is, hit .1)
+    let value = sym (c .offset .ensures) ∙ (sym (c .as-value .ensures) ∙ (c .if-as-value .left ∙ c .as-value-2 .ensures)) in
+    let hit = find-hit (c .args .offset .0) (c .args .grant) (entries-of l) (l .rising) i within (found .1) (ap (λ (e : Entry). e .value) is ∙ value) in
+    record {
+      within = found .0;
+      here = is;
+      value-is = value;
+      grant-is = sym (ap (λ (e : Entry). e .grant) is) ∙ found .1;
+      found = hit .0 ∙ ap Some is;
+      rest = hit .1;
+    }

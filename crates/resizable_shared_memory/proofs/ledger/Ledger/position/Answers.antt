@@ -2,7 +2,7 @@
 use mathlib.Core.Path.{_≡_, ap, _∙_}
 use Prim.Native.Nat.{ℕ, _+_, _-_, _/_, _<_}
 use native.Mathlib.Omega.{arith}
-use lib.ListN.{getD, length}
+use lib.ListN.{getD}
 use Rattle.resizable_shared_memory.specs.Entries.{Entry, entry-at}
 use Rattle.resizable_shared_memory.specs.Ledgers.{entries-of}
 use Rattle.resizable_shared_memory.specs.declared.ledger.Ledger.{Ledger}

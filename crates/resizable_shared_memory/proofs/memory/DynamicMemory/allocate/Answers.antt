@@ -1,5 +1,5 @@
 -- The checks before the rounds, in their order.
-use mathlib.Core.Path.{_≡_, refl}
+use mathlib.Core.Path.{refl}
 use native.Mathlib.Omega.{arith}
 use Rattle.resizable_shared_memory.specs.Memory.Allocates.{bad-layout, ledger-full, grants-spent, in-rounds}
 use Rattle.resizable_shared_memory.proofs.memory.DynamicMemory.allocate.Needs as need

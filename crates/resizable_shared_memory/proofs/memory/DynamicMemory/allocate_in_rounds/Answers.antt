@@ -1,21 +1,22 @@
 -- Each way out of the loop ends the rounds, and each turn adds one to those that went before.
-use mathlib.Core.Path.{_≡_, ap, subst}
+use mathlib.Core.Path.{ap, subst}
 use Prim.Native.Nat.{ℕ}
 use native.Mathlib.Omega.{arith}
 use lib.ListN.{length}
 use Rattle.std.proofs.shelf.Results.{err-from-errBy}
-use Rattle.resizable_shared_memory.specs.Memory.Rounds.{answered}
+use Rattle.shm_allocator.specs.Meaning.{refusal-number}
+use Rattle.resizable_shared_memory.specs.Memory.Rounds.{answered, again}
 use Rattle.resizable_shared_memory.specs.Moves.{Enters}
-use Rattle.resizable_shared_memory.proofs.Rounding.{ends, goes-on}
+use Rattle.resizable_shared_memory.proofs.Rounding.{ends, grown-by}
 use Rattle.resizable_shared_memory.proofs.memory.DynamicMemory.allocate_in_rounds.Needs as need
 
 pub loop-start-again : need.loop-start-again
 loop-start-again g c =
     let refusal = c .in-Err .ensures tt in
-    let room = c .in-Continue-make-room .ensures tt in (
-      (λ r n t rest. c .loop-start .inv .0 r n t (goes-on (g .A·ShmAllocator .means) (c .args .layout) (c .loop-start .self) _ (c .allocate .last .self) (c .in-Err .refusal) (refusal .0) (refusal .1) _ _ _ _ _ room rest)),
-      omega (arith, ap length (room .1 .tables .ledger), c .loop-start .inv .1),
-      omega (arith, room .1 .tables .grants, c .loop-start .inv .2),
+    let grown = grown-by (g .A·ShmAllocator .means) (c .args .layout) (c .loop-start .self) _ (c .allocate .last .self) (c .in-Err .refusal) (refusal .0) (refusal .1) _ _ (c .in-Continue-make-room .ensures tt) in (
+      (λ r n t rest. c .loop-start .inv .0 r n t (again (refusal-number (c .in-Err .refusal)) (refusal .0) (grown .0) (grown .1) rest)),
+      omega (arith, ap length (grown .1 .tables .ledger), c .loop-start .inv .1),
+      omega (arith, grown .1 .tables .grants, c .loop-start .inv .2),
     )
 
 pub returns-in-Break-make-room : need.returns-in-Break-make-room

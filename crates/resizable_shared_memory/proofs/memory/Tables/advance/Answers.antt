@@ -1,5 +1,5 @@
 -- The next segment's place was empty before, and counts nothing yet.
-use mathlib.Core.Path.{_≡_, refl, ap, sym, subst, _∙_}
+use mathlib.Core.Path.{_≡_, refl, sym, subst, _∙_}
 use native.Mathlib.Omega.{arith}
 use Rattle.std.specs.declared.option.Option.{Option}
 use Rattle.resizable_shared_memory.specs.Withdrawals.{Vacates}

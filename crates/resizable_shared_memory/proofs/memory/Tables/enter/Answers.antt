@@ -1,12 +1,12 @@
 -- The chunk is the last of the ledger, and its segment counts one more.
-use mathlib.Core.Path.{_≡_, refl, ap, sym, subst, _∙_}
+use mathlib.Core.Path.{refl, ap, sym, subst, _∙_}
 use native.Mathlib.Omega.{arith}
 use mathlib.Core.List.{List, [], _∷_, _++_}
 use Prim.Native.Nat.{ℕ, _+_, _≤_}
 use native.Mathlib.Nat.{le-refl}
 use Rattle.std.specs.Options.{isSome}
-use Rattle.pointer_offset.specs.Packing.{id-of, packed}
-use Rattle.resizable_shared_memory.specs.Entries.{Entry, Granted-by}
+use Rattle.pointer_offset.specs.Packing.{packed}
+use Rattle.resizable_shared_memory.specs.Entries.{Entry, GrantedUpTo}
 use Rattle.resizable_shared_memory.specs.Ledgers.{entries-of}
 use Rattle.resizable_shared_memory.specs.Places.{count-of}
 use Rattle.resizable_shared_memory.proofs.Listing.{length-of, each-push}
@@ -40,7 +40,7 @@ ghost-self c =
           (
             counted-more (m .table) (c .put .last .self) es _ i _ _ new (c .push .ensures) (omega (arith, mapped-below (m .table) i (m .mapped))) (sym (c .in-Some .ensures tt)) (c .put .ensures) (c .with-count .ensures .3) (m .counted),
             (
-              subst (λ fs. Granted-by fs (m .given + 1)) (sym (c .push .ensures)) (each-push es new (λ e. e .grant ≤ m .given + 1) (λ k h. omega (arith, m .granted k h)) (omega arith)),
+              subst (λ fs. GrantedUpTo fs (m .given + 1)) (sym (c .push .ensures)) (each-push es new (λ e. e .grant ≤ m .given + 1) (λ k h. omega (arith, m .granted k h)) (omega arith)),
               tt,
             ),
           ),

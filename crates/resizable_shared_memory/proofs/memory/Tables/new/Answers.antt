@@ -1,5 +1,5 @@
 -- Only the place of the id 0 is mapped.
-use mathlib.Core.Path.{_≡_, refl, ap, sym, _∙_}
+use mathlib.Core.Path.{refl, ap, sym, _∙_}
 use Rattle.resizable_shared_memory.specs.Places.{place-of}
 use Rattle.resizable_shared_memory.proofs.memory.Tables.new.Needs as need
 
