@@ -8,7 +8,7 @@ use shared_memory::fault::SharedMemoryCreateErrorDebug;
 use shared_memory::fault::SharedMemoryOpenError;
 use shared_memory::fault::SharedMemoryOpenErrorDebug;
 use shared_memory::fault::StoreError;
-use shared_memory::fault::StoreErrorDisplay;
+use shared_memory::fault::StoreErrorDebug;
 use shm_allocator::NotHeld;
 use shm_allocator::ShmAllocationError;
 use shm_allocator::ShmAllocationErrorDebug;
@@ -169,7 +169,7 @@ fn write_no_access<W: fmt::Write>(f: &mut fmt::Formatter<W>, e: AccessError) -> 
 
 fn write_no_store<W: fmt::Write>(f: &mut fmt::Formatter<W>, e: StoreError) -> fmt::Result {
     match e.number() {
-        Some(number) => write!(f, "denied {number}: {e}"),
-        None => write!(f, "not done: {e}"),
+        Some(number) => write!(f, "denied {number}: {e:?}"),
+        None => write!(f, "not done: {e:?}"),
     }
 }
