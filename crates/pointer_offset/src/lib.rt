@@ -1,4 +1,5 @@
 // Ported from src/shm_allocator/pointer_offset.rs of crate iceoryx2-cal 0.9.3; see NOTICE.
+#![tactic(auto)]
 
 ghost use Rattle.std.specs.Prelude.{◌≡◌, ◌+◌, ◌*◌, ◌<◌, ◌≤◌, MatchResult};
 ghost use Rattle.pointer_offset.specs.Packing.{packed, packing, offset_of, id_of, with_id, offset_number, Lossless};

@@ -1,19 +1,17 @@
 -- Pools by their numbers, and that the worked instances hold.
-use Rattle.std.proofs.Common.{◌≡◌, ℕ, ◌+◌, ◌-◌, ◌*◌, ◌/◌, ◌<◌, ◌≤◌, max, Bool, true, false, cond, ◌&&◌, ◌||◌, ltb, leb, List, [], ◌∷◌, sym, refl, ap, ◌∙◌, ap₂, arith}
+use Rattle.std.proofs.Common.{◌≡◌, ℕ, ◌+◌, ◌-◌, ◌*◌, ◌/◌, max, Bool, true, false, cond, ◌&&◌, ◌||◌, ltb, leb, List, [], ◌∷◌, sym, refl, ap, ◌∙◌, ap₂, arith}
 use Rattle.std.specs.List.{range_with_len}
 use Rattle.shm_allocator.specs.declared.layout.ValidLayout.{ValidLayout}
 use Rattle.shm_allocator.specs.declared.AllocationStrategy.{AllocationStrategy}
-use Rattle.shm_allocator.specs.declared.AllocationStrategy.TheVariants.{BestFit, PowerOfTwo, Static}
+use Rattle.shm_allocator.specs.declared.AllocationStrategy.TheVariants.{BestFit, PowerOfTwo}
 use Rattle.shm_allocator.specs.declared.bump_allocator.BumpAllocator.{BumpAllocator}
 use Rattle.shm_allocator.specs.declared.pool_allocator.PoolAllocator.{PoolAllocator}
 use Rattle.shm_allocator.specs.declared.pool_allocator.Config.{Config}
 use Rattle.shm_allocator.specs.Numbers.{rounded_up, next_power}
 use Rattle.shm_allocator.specs.Sizes.{grows, raise}
 use Rattle.shm_allocator.specs.Buckets.{listed, empty}
-use Rattle.shm_allocator.specs.Meaning.{Answer}
-use Rattle.shm_allocator.specs.Meaning.Answer.{start, refused}
 use Rattle.shm_allocator.specs.Bump.{hint_payload}
-use Rattle.shm_allocator.specs.Pool.{pool, pool_answer, front_answer, PoolGave, PoolFresh, bucket_size_of, bucket_count}
+use Rattle.shm_allocator.specs.Pool.{pool, front_answer, PoolGave, PoolFresh, bucket_size_of, bucket_count}
 use Rattle.shm_allocator.specs.Instances.{Asks, Holds, Story, Instances, hinted}
 use Rattle.shm_allocator.specs.Pools.{served}
 

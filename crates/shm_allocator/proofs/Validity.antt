@@ -1,5 +1,5 @@
 -- The test of a request decides the rules.
-use Rattle.std.proofs.Common.{◌≡◌, ℕ, ◌≤◌, Bool, true, false, ◌&&◌, eqb, leb, sym, refl, subst, arith, pow_pos}
+use Rattle.std.proofs.Common.{◌≡◌, ℕ, Bool, true, false, ◌&&◌, eqb, leb, sym, refl, subst, arith, pow_pos}
 use Rattle.std.proofs.lemmas.Bool.{leb-true, le-leb, eq-eqb, eqb-true, and_parts, and_from}
 use Rattle.shm_allocator.specs.Numbers.{IsPowerOfTwo, Valid, valid, next_power}
 use Rattle.shm_allocator.specs.Powers.{exponent, next_power_only, next_power_power}

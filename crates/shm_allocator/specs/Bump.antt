@@ -1,5 +1,5 @@
 -- The meaning of the bump allocator: a mark that only rises, and all below it is taken.
-use Rattle.std.specs.Prelude.{◌≡◌, ℕ, ◌+◌, ◌-◌, ◌*◌, Bool, true, false, cond, ◌&&◌, Some, nat_le, nat_lt}
+use Rattle.std.specs.Prelude.{◌≡◌, ℕ, ◌+◌, ◌-◌, ◌*◌, true, cond, ◌&&◌, Some, nat_le, nat_lt}
 use Rattle.shm_allocator.specs.declared.layout.ValidLayout.{ValidLayout}
 use Rattle.shm_allocator.specs.declared.AllocationStrategy.{AllocationStrategy}
 use Rattle.shm_allocator.specs.declared.SharedMemorySetupHint.{SharedMemorySetupHint}

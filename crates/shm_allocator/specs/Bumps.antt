@@ -1,5 +1,5 @@
 -- The bump allocator keeps the rules.
-use Rattle.std.specs.Prelude.{◌≡◌, ℕ, ◌+◌, ◌-◌, ◌*◌, ◌%◌, ◌<◌, ◌≤◌, Bool, true, false, cond, ◌&&◌, ltb, ◌⊎◌, Some, ◌≢◌, nat_le, nat_lt, refl}
+use Rattle.std.specs.Prelude.{◌≡◌, ℕ, ◌+◌, ◌-◌, ◌%◌, ◌<◌, ◌≤◌, Bool, true, false, cond, ◌&&◌, ltb, ◌⊎◌, ◌≢◌, nat_le, nat_lt, refl}
 use Rattle.std.proofs.Common.{sym, ap, subst, ◌∙◌, inl, inr, arith}
 use Rattle.std.proofs.lemmas.Bool.{ltb-true, ltb-false, leb-false, lt-ltb, le-ltb}
 use Rattle.shm_allocator.specs.declared.layout.ValidLayout.{ValidLayout}
@@ -8,7 +8,7 @@ use Rattle.shm_allocator.specs.declared.AllocationStrategy.TheVariants.{Static}
 use Rattle.shm_allocator.specs.declared.bump_allocator.BumpAllocator.{BumpAllocator}
 use Rattle.shm_allocator.specs.declared.bump_allocator.Config.{Config}
 use Rattle.shm_allocator.specs.Numbers.{rounded_up}
-use Rattle.shm_allocator.specs.Sizes.{grows, raise}
+use Rattle.shm_allocator.specs.Sizes.{raise}
 use Rattle.shm_allocator.specs.Meaning.{Answer, Bytes, Gives, Frees, Fresh, Taken, Helps, Lawful, span}
 use Rattle.shm_allocator.specs.Meaning.Answer.{start, refused}
 use Rattle.shm_allocator.specs.Bump.{bump, bump_start, bump_answer, hint_payload, BumpGave, BumpFresh}

@@ -1,5 +1,5 @@
 -- Layouts that are rounded up and that grow keep the rules.
-use Rattle.std.specs.Prelude.{◌≡◌, ℕ, ◌≤◌, max, refl}
+use Rattle.std.specs.Prelude.{ℕ, ◌≤◌, max, refl}
 use Rattle.std.proofs.Common.{arith}
 use Rattle.shm_allocator.specs.Numbers.{IsPowerOfTwo}
 use Rattle.shm_allocator.specs.Sizes.{raise, rounded_size, grown_size, grown_align}

@@ -1,5 +1,5 @@
 -- What an allocator means, and the rules that every one keeps.
-use Rattle.std.specs.Prelude.{◌≡◌, ℕ, ◌+◌, ◌*◌, ◌%◌, ◌<◌, ◌≤◌, Bool, true, false, ◌&&◌, ◌⊎◌, Some, None, Option, ◌≢◌, nat_le, nat_lt}
+use Rattle.std.specs.Prelude.{◌≡◌, ℕ, ◌+◌, ◌*◌, ◌%◌, ◌<◌, ◌≤◌, Bool, true, false, ◌&&◌, ◌⊎◌, Some, Option, ◌≢◌, nat_le, nat_lt}
 use Rattle.shm_allocator.specs.Numbers.{rounded_up}
 use Rattle.shm_allocator.specs.declared.layout.ValidLayout.{ValidLayout}
 use Rattle.shm_allocator.specs.declared.AllocationStrategy.{AllocationStrategy}

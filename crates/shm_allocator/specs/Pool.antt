@@ -1,5 +1,5 @@
 -- The meaning of the pool allocator: equal buckets, given out and returned at the front of a list.
-use Rattle.std.specs.Prelude.{◌≡◌, ℕ, ◌+◌, ◌*◌, ◌/◌, ◌%◌, Bool, true, false, cond, ◌&&◌, ◌||◌, List, [], ◌∷◌, Some, None, ◌==◌, nat_le, nat_lt}
+use Rattle.std.specs.Prelude.{◌≡◌, ℕ, ◌+◌, ◌*◌, ◌/◌, ◌%◌, Bool, cond, ◌&&◌, ◌||◌, List, [], ◌∷◌, Some, None, ◌==◌, nat_le, nat_lt}
 use Rattle.shm_allocator.specs.declared.layout.ValidLayout.{ValidLayout}
 use Rattle.shm_allocator.specs.declared.AllocationStrategy.{AllocationStrategy}
 use Rattle.shm_allocator.specs.declared.SharedMemorySetupHint.{SharedMemorySetupHint}

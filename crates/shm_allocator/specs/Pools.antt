@@ -10,12 +10,12 @@ use Rattle.shm_allocator.specs.declared.AllocationStrategy.{AllocationStrategy}
 use Rattle.shm_allocator.specs.declared.AllocationStrategy.TheVariants.{Static}
 use Rattle.shm_allocator.specs.declared.pool_allocator.PoolAllocator.{PoolAllocator}
 use Rattle.shm_allocator.specs.declared.pool_allocator.Config.{Config}
-use Rattle.shm_allocator.specs.Numbers.{rounded_up, valid}
-use Rattle.shm_allocator.specs.Sizes.{grows, raise, grown_size, grown_align}
+use Rattle.shm_allocator.specs.Numbers.{rounded_up}
+use Rattle.shm_allocator.specs.Sizes.{raise, grown_size, grown_align}
 use Rattle.shm_allocator.specs.Buckets.{listed, flag, empty}
-use Rattle.shm_allocator.specs.Meaning.{Answer, Bytes, Gives, Frees, Fresh, Fixed, Taken, Helps, Lawful, span}
+use Rattle.shm_allocator.specs.Meaning.{Bytes, Gives, Frees, Fresh, Fixed, Taken, Helps, Lawful, span}
 use Rattle.shm_allocator.specs.Meaning.Answer.{start, refused}
-use Rattle.shm_allocator.specs.Pool.{pool, pool_answer, front_answer, starts, PoolGave, PoolTook, PoolSetUp, PoolFresh, pool_hint, outgrown, hint_size, hint_align, hint_count}
+use Rattle.shm_allocator.specs.Pool.{pool, pool_answer, front_answer, starts, PoolGave, PoolTook, PoolFresh, pool_hint, hint_size, hint_align, hint_count}
 use Rattle.shm_allocator.specs.Rounding.{round_multiple, round_low, round_exact}
 use Rattle.shm_allocator.specs.Powers.{power_pos, power_divides}
 use Rattle.shm_allocator.specs.Growing.{raise_low}

@@ -1,4 +1,5 @@
 // Ported from src/shm_allocator/mod.rs of crate iceoryx2-cal 0.9.3; see NOTICE.
+#![tactic(auto)]
 
 ghost use Rattle.std.specs.Prelude.{◌≡◌, ℕ, ◌+◌, ◌<◌, ◌≤◌, true, MatchResult, ◌≢◌};
 ghost use Rattle.shm_allocator.specs.Instances.{Instances};

@@ -1,4 +1,4 @@
-use Rattle.std.proofs.Common.{refl, arith, rules}
+use Rattle.std.proofs.Common.{refl, arith}
 use Rattle.shm_allocator.specs.Numbers.{rounded_up}
 use Rattle.shm_allocator.specs.Rounding.{round_low, round_high}
 use Rattle.shm_allocator.proofs.layout.round_up.Goals as goal

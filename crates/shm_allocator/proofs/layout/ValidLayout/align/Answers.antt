@@ -1,4 +1,4 @@
-use Rattle.std.proofs.Common.{refl, arith}
+use Rattle.std.proofs.Common.{refl}
 use Rattle.shm_allocator.specs.Powers.{power_pos}
 use Rattle.shm_allocator.proofs.layout.ValidLayout.align.Goals as goal
 

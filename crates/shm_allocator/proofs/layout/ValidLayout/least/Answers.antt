@@ -1,5 +1,5 @@
 use Rattle.std.proofs.Common.{refl, arith}
 use Rattle.shm_allocator.proofs.layout.ValidLayout.least.Goals as goal
 
-pub invariant-of-result : goal.invariant-of-result
-invariant-of-result c = ((omega arith, omega arith), (((∣ (0, refl) ∣₁), omega arith), tt))
+pub invariant_of-result : goal.invariant_of-result
+invariant_of-result c = record { sized = (omega arith, omega arith); aligned = (∣ (0, refl) ∣₁, omega arith) }

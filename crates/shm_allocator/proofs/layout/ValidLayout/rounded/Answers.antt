@@ -4,11 +4,11 @@ use Rattle.shm_allocator.specs.Sizes.{rounded_size}
 use Rattle.shm_allocator.specs.Growing.{rounded_sized}
 use Rattle.shm_allocator.proofs.layout.ValidLayout.rounded.Goals as goal
 
-pub invariant-of-result : goal.invariant-of-result
-invariant-of-result c =
+pub invariant_of-result : goal.invariant_of-result
+invariant_of-result c =
     let s = rounded_sized c.args.self in
-    let e : c.round-up-size.result ≡ rounded_size c.args.self = c.round-up-size.ensures.value ∙ ap (rounded_up c.args.self.size) c.align.ensures.value in
-    ((omega arith, omega arith), (c.args.self.aligned, tt))
+    let e : c.round_up-size.result ≡ rounded_size c.args.self = c.round_up-size.ensures.value ∙ ap (rounded_up c.args.self.size) c.align.ensures.value in
+    record { sized = (omega arith, omega arith); aligned = c.args.self.aligned }
 
 pub returns : goal.returns
-returns c = (c.round-up-size.ensures.value ∙ ap (rounded_up c.args.self.size) c.align.ensures.value, refl)
+returns c = (c.round_up-size.ensures.value ∙ ap (rounded_up c.args.self.size) c.align.ensures.value, refl)

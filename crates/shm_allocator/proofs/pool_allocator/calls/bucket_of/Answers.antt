@@ -1,14 +1,14 @@
-use Rattle.std.proofs.Common.{◌≡◌, ℕ, ◌/◌, ◌≤◌, Bool, true, ◌&&◌, leb, sym, ap, ◌∙◌, subst, ap₂, arith}
+use Rattle.std.proofs.Common.{◌≡◌, ℕ, ◌/◌, Bool, ◌&&◌, leb, ap, ◌∙◌, ap₂, arith}
 use Rattle.std.proofs.lemmas.Bool.{and_from, le-leb}
 use Rattle.shm_allocator.specs.Numbers.{rounded_up}
 use Rattle.shm_allocator.specs.Pool.{bucket_size_of, bucket_count}
 use Rattle.shm_allocator.proofs.Validity.{valid_holds, valid_fails}
 use Rattle.shm_allocator.proofs.pool_allocator.calls.bucket_of.Goals as goal
 
-pub returns-in-default : goal.returns-in-default
-returns-in-default c =
+pub returns-in_default : goal.returns-in_default
+returns-in_default c =
     let l = c.args.config.bucket_layout in
-    ap (λ (x : Bool). x && (leb l.align 4096 && leb (bucket_count c.args.config c.args.payload) 1024)) (valid_fails l.size l.align c.in-default.ensures)
+    ap (λ (x : Bool). x && (leb l.align 4096 && leb (bucket_count c.args.config c.args.payload) 1024)) (valid_fails l.size l.align c.in_default.ensures)
 
 pub returns : goal.returns
 returns c =

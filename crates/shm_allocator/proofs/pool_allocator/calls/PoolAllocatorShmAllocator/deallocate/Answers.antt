@@ -1,4 +1,4 @@
-use Rattle.std.proofs.Common.{◌≡◌, ℕ, ◌/◌, ◌%◌, ◌<◌, ◌≤◌, true, sym, refl, ap, ◌∙◌, subst, arith}
+use Rattle.std.proofs.Common.{◌≡◌, ℕ, ◌/◌, ◌%◌, sym, refl, ap, ◌∙◌, subst, arith}
 use Rattle.shm_allocator.specs.Buckets.{flag, Pushed}
 use Rattle.shm_allocator.specs.Pools.{pool_taken}
 use Rattle.shm_allocator.proofs.pool_allocator.calls.PoolAllocatorShmAllocator.deallocate.Goals as goal
@@ -11,6 +11,6 @@ returns c =
     let r : c.args.at % c.size-bucket.result ≡ c.args.at % a.layout.size = ap (λ (x : ℕ). c.args.at % x) e in (
       pool_taken a c.args.at c.args.size
           (record { even = omega arith; inside = omega arith; some = omega arith; few = omega arith })
-          (ap (flag a.buckets) (sym q) ∙ sym c.if-not-is-taken.ensures),
+          (ap (flag a.buckets) (sym q) ∙ sym c.if-not-is_taken.ensures),
       record { payload = refl; layout = refl; pushed = subst (λ (x : ℕ). Pushed a.buckets x c.push.new.self) q c.push.ensures },
     )
