@@ -119,12 +119,12 @@ module _ (es : Extents) (m fs : ℕ) (f : Frames es m fs) where
 pub frames_of : (s : FrameStore) → Frames (extents s.table) (memory s.table) s.frame_size
 frames_of s = record { whole = s.whole; aligned = s.aligned; fitting = s.fitting }
 
--- what a store's ghost fields say, in their order
+-- what a store's ghost fields say
 abbrev pub Facts : SegmentTable → ℕ → Type 0
-Facts t fs = ((1 ≤ fs) × (fs % 4096 ≡ 0)) × ((memory t ≡ length (extents t) * fs) × (Aligned (extents t) fs × (Fitting (extents t) fs × Unit {0})))
+Facts t fs = record { paged : (1 ≤ fs) × (fs % 4096 ≡ 0); whole : memory t ≡ length (extents t) * fs; aligned : Aligned (extents t) fs; fitting : Fitting (extents t) fs }
 
 pub facts : (t : SegmentTable) (fs : ℕ) → (1 ≤ fs) × (fs % 4096 ≡ 0) → Frames (extents t) (memory t) fs → Facts t fs
-facts t fs paged f = (paged, (f.whole, (f.aligned, (f.fitting, tt))))
+facts t fs paged f = record { paged = paged; whole = f.whole; aligned = f.aligned; fitting = f.fitting }
 
 facts_relaid : (s : FrameStore) (t : SegmentTable) (es : Extents) → Relaid s.table es t → Frames es (memory s.table) s.frame_size → Facts t s.frame_size
 facts_relaid s t es r f =

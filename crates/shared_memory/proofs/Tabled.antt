@@ -23,12 +23,12 @@ use Rattle.shared_memory.proofs.Sounds.{roomless}
 pub lies : (s : SegmentTable) → Lie (extents s) (memory s)
 lies s = record { paged = s.paged; within = s.within; disjoint = s.disjoint }
 
--- what a table's ghost fields say, in their order
+-- what a table's ghost fields say
 abbrev pub Facts : List (Option Slot) → List ℕ → Type 0
-Facts slots bytes = (length slots ≤ 320) × ((length bytes < 2 ^ 63) × (Paged (extents_in slots) × (Within (extents_in slots) (length bytes) × (Disjoint (extents_in slots) × Unit {0}))))
+Facts slots bytes = record { few : length slots ≤ 320; small : length bytes < 2 ^ 63; paged : Paged (extents_in slots); within : Within (extents_in slots) (length bytes); disjoint : Disjoint (extents_in slots) }
 
 pub facts : (slots : List (Option Slot)) (bytes : List ℕ) → length slots ≤ 320 → length bytes < 2 ^ 63 → Lie (extents_in slots) (length bytes) → Facts slots bytes
-facts slots bytes few small l = (few, (small, (l.paged, (l.within, (l.disjoint, tt)))))
+facts slots bytes few small l = record { few = few; small = small; paged = l.paged; within = l.within; disjoint = l.disjoint }
 
 -- the memory was written over as a whole
 module _ (s : SegmentTable) (all : List ℕ) (e : length all ≡ s.bytes.len) where

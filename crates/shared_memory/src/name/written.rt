@@ -38,7 +38,7 @@ fn is_base_name(name: &[u8]) -> bool
     if name.is_empty() || name.len() > 24 {
         return false;
     }
-    if name == b"." || name == b".." {
+    if name == b".".as_slice() || name == b"..".as_slice() {
         return false;
     }
     are_name_bytes(name)

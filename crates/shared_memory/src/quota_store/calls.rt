@@ -12,7 +12,7 @@ use crate::table::MAX_HANDLES;
 impl<S: SegmentStore> QuotaStore<S> {
     // A store that is not empty is handed back.
     pub fn new(below: S, quota: u64) -> Result<QuotaStore<S>, NotEmpty<S>>
-        ensures { QuotaStart means below quota result }
+        ensures { QuotaStart S.means below quota result }
     {
         if !below.is_empty() {
             return Err(NotEmpty { store: below });
@@ -22,7 +22,7 @@ impl<S: SegmentStore> QuotaStore<S> {
 
     // The payload sizes that stand, together.
     fn used(&self) -> u128
-        ensures value { result ≡ used (means self.now.below) }
+        ensures value { result ≡ used (S.means self.now.below) }
         ensures bound { result ≤ 320 * 2 ^ 64 }
     {
         let mut sum: u128 = 0;
@@ -35,7 +35,7 @@ impl<S: SegmentStore> QuotaStore<S> {
 
     // Whether a payload of that size would stay within the quota.
     fn is_within(&self, size: u64) -> bool
-        ensures { result ≡ nat_le (used (means self.now.below) + size) self.now.quota }
+        ensures { result ≡ nat_le (used (S.means self.now.below) + size) self.now.quota }
     {
         self.used() + size as u128 <= self.quota as u128
     }

@@ -8,20 +8,20 @@ use Rattle.shared_memory.proofs.Sounds.{empty_sound}
 use Rattle.shared_memory.proofs.Tabled.{free_empty}
 use Rattle.shared_memory.proofs.frame_store.FrameStore.new.Goals as goal
 
-pub invariant-of-result : goal.invariant-of-result
-invariant-of-result c =
-    let t = c.in-ok-table.table in
+pub invariant_of-result : goal.invariant_of-result
+invariant_of-result c =
+    let t = c.in_ok-table.table in
     let fs = c.args.frame_size in
     let (shape, total) = c.in-Some.ensures in
-    let (laid, long) = c.in-ok-table.ensures in
+    let (laid, long) = c.in_ok-table.ensures in
     facts t fs (shape.2, shape.3) (subst (λ es. Frames es (memory t) fs) (sym laid) (frames_free c.args.frames (memory t) fs (long ∙ total)))
 
 pub returns : goal.returns
 returns c =
-    let t = c.in-ok-table.table in
+    let t = c.in_ok-table.table in
     let fs = c.args.frame_size in
     let (shape, total) = c.in-Some.ensures in
-    let (laid, long) = c.in-ok-table.ensures in
+    let (laid, long) = c.in_ok-table.ensures in
     let empty = free_empty t c.args.frames laid (frame_rule fs) in
     record {
       shape = shape;

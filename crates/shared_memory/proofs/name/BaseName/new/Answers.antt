@@ -7,11 +7,11 @@ use Rattle.shared_memory.proofs.name.BaseName.new.Goals as goal
 copied : (xs ys rest : List ℕ) → ys ≡ xs → take (length xs) (ys ++ rest) ≡ xs
 copied xs ys rest e = take_at ys rest _ (ap length e) ∙ e
 
-pub invariant-of-result : goal.invariant-of-result
-invariant-of-result c =
-    let good = c.if-not-is-base-name.ensures.0 refl in
+pub invariant_of-result : goal.invariant_of-result
+invariant_of-result c =
+    let good = c.if-not-is_base_name.ensures.0 refl in
     let few : length c.args.name.now ≤ 24 = good.1 in
-    (few, (search (rules, places), (subst GoodBase (sym (copied _ _ _ c.copy-from-slice.ensures.after)) good, tt)))
+    record { fits = few; whole = search (rules, places); good = subst GoodBase (sym (copied _ _ _ c.copy_from_slice.ensures.after)) good }
 
 pub returns : goal.returns
-returns c = (c.if-not-is-base-name.ensures.0 refl, copied _ _ _ c.copy-from-slice.ensures.after)
+returns c = (c.if-not-is_base_name.ensures.0 refl, copied _ _ _ c.copy_from_slice.ensures.after)

@@ -2,8 +2,8 @@ use Rattle.std.proofs.Common.{length, ap, ◌∙◌, rules}
 use Rattle.std.proofs.lemmas.List.{take_at, places}
 use Rattle.shared_memory.proofs.name.SegmentName.of.Goals as goal
 
-pub invariant-of-result : goal.invariant-of-result
-invariant-of-result c = (c.requires, (search (rules, places), tt))
+pub invariant_of-result : goal.invariant_of-result
+invariant_of-result c = record { fits = c.requires; whole = search (rules, places) }
 
 pub returns : goal.returns
-returns c = take_at c.copy-from-slice.new.self _ _ (ap length c.copy-from-slice.ensures.after) ∙ c.copy-from-slice.ensures.after
+returns c = take_at c.copy_from_slice.new.self _ _ (ap length c.copy_from_slice.ensures.after) ∙ c.copy_from_slice.ensures.after

@@ -10,31 +10,31 @@ use Rattle.shared_memory.proofs.span_store.SpanStore.gap.Goals as goal
 within : (s : SpanStore) → Within (extents s.table) (s.pages * 4096)
 within s = subst (Within (extents s.table)) s.whole s.table.within
 
-pub returns-in-default : goal.returns-in-default
-returns-in-default c =
+pub returns-in_default : goal.returns-in_default
+returns-in_default c =
     let s = c.args.self.now in
     let es = extents s.table in
-    sym (ap (first_run es s.pages) (sym c.pages-of-n.ensures) ∙ run_found es s.pages c.pages-of-n.result c.loop-page.page c.loop-page-test.true c.in-default.ensures c.loop-page.invariant.1)
+    sym (ap (first_run es s.pages) (sym c.pages_of-n.ensures) ∙ run_found es s.pages c.pages_of-n.result c.loop-page.page c.loop-page-test.true c.in_default.ensures c.loop-page.invariant.1)
 
 pub loop-page-smaller : goal.loop-page-smaller
 loop-page-smaller c =
     let s = c.args.self.now in
-    omega (arith, goes_on (extents s.table) s.pages c.pages-of-n.result (within s) c.loop-page.page c.in-Some.end c.in-Some.ensures, c.pages-of-page.ensures)
+    omega (arith, goes_on (extents s.table) s.pages c.pages_of-n.result (within s) c.loop-page.page c.in-Some.end c.in-Some.ensures, c.pages_of-page.ensures)
 
 pub loop-page-preserved : goal.loop-page-preserved
 loop-page-preserved c =
     let s = c.args.self.now in
     let es = extents s.table in
-    let n = c.pages-of-n.result in
+    let n = c.pages_of-n.result in
     let page = c.loop-page.page in
     let end = c.in-Some.end in
     let b = c.in-Some.ensures in (
-      omega (arith, goes_on es s.pages n (within s) page end b, c.pages-of-page.ensures),
-      λ q lt. ⊎_elim (c.loop-page.invariant.1 q) (λ le. passed es s.pages n page end b q le (omega (arith, c.pages-of-page.ensures))) (cases_lt q page),
+      omega (arith, goes_on es s.pages n (within s) page end b, c.pages_of-page.ensures),
+      λ q lt. ⊎_elim (c.loop-page.invariant.1 q) (λ le. passed es s.pages n page end b q le (omega (arith, c.pages_of-page.ensures))) (cases_lt q page),
     )
 
 pub returns : goal.returns
 returns c =
     let s = c.args.self.now in
     let es = extents s.table in
-    sym (ap (first_run es s.pages) (sym c.pages-of-n.ensures) ∙ run_none es s.pages c.pages-of-n.result c.loop-page.page c.loop-page-test.false c.loop-page.invariant.1)
+    sym (ap (first_run es s.pages) (sym c.pages_of-n.ensures) ∙ run_none es s.pages c.pages_of-n.result c.loop-page.page c.loop-page-test.false c.loop-page.invariant.1)

@@ -10,9 +10,9 @@ use Rattle.shared_memory.proofs.span_store.SpanStore.new.Goals as goal
 
 pub returns : goal.returns
 returns c =
-    let t = c.in-ok-table.table in
+    let t = c.in_ok-table.table in
     let pages = c.args.pages in
-    let (laid, long) = c.in-ok-table.ensures in
+    let (laid, long) = c.in_ok-table.ensures in
     let empty = free_empty t 320 laid (span_rule pages) in
     record {
       shape = (omega arith, omega arith);

@@ -8,14 +8,14 @@ use Rattle.shared_memory.proofs.Optional.{inside, none_some, same_some}
 use Rattle.shared_memory.proofs.Slotted.{extent_some, extent_back}
 use Rattle.shared_memory.proofs.Tabled.{within_memory}
 use Rattle.shared_memory.proofs.table.SegmentTable.blocker.Goals as goal
-use Rattle.shared_memory.proofs.table.SegmentTable.blocker.Goals.{in-Some+else-slot-to, else-slot-to-via-then-slot-to+else-from-end, else-slot-to-via-else-slot-to, in-default}
+use Rattle.shared_memory.proofs.table.SegmentTable.blocker.Goals.{in-Some+else-slot-to, else-slot-to-via-then-slot-to+else-from-end, else-slot-to-via-else-slot-to, in_default}
 
 missed : (y x : Slot) (from to : ℕ) → y ≡ x → (to ≤ y.start) ⊎ (y.start + y.size ≤ from) → x.start < to → from < x.start + x.size → ⊥
 missed y x from to same out lo hi =
     ⊎_elim (λ le. omega (arith, ap (λ x. x.start) same)) (λ le. omega (arith, ap (λ x. x.start + x.size) same)) out
 
-pub overflow-add-end : goal.overflow-add-end
-overflow-add-end c = omega (arith, within_memory c.args.self.now c.loop-handle.handle c.in-Some.slot (sym c.in-Some.ensures))
+pub overflow_add-end : goal.overflow_add-end
+overflow_add-end c = omega (arith, within_memory c.args.self.now c.loop-handle.handle c.in-Some.slot (sym c.in-Some.ensures))
 
 pub returns-then-from-end : goal.returns-then-from-end
 returns-then-from-end c =
@@ -42,7 +42,7 @@ loop-handle-preserved c k x lt e lo hi =
             | else-slot-to-via-else-slot-to v ↦ inl v.if-slot-to.false
           ])
           lo hi
-      | in-default w ↦ none_some (sym w.in-default.ensures) here
+      | in_default w ↦ none_some (sym w.in_default.ensures) here
     ])
     (λ ne. c.loop-handle.invariant k x (omega arith) e lo hi)
     (cases_eq k c.loop-handle.handle)

@@ -8,8 +8,8 @@ put-requires c =
     let p = c.args.place in
     let n = c.of.result in
     record {
-      inside = omega (arith, place_inside s p n c.args.size c.args.allocator-id c.requires.vacant, ap length c.clear.ensures.slots);
-      lie = lie_made s p n c.args.size c.args.allocator-id c.requires.vacant c.clear.new.self c.clear.ensures;
+      inside = omega (arith, place_inside s p n c.args.size c.args.allocator_id c.requires.vacant, ap length c.clear.ensures.slots);
+      lie = lie_made s p n c.args.size c.args.allocator_id c.requires.vacant c.clear.new.self c.clear.ensures;
     }
 
 pub returns : goal.returns
@@ -19,6 +19,6 @@ returns c =
     let t = c.put.new.self in
     let p = c.args.place in
     record {
-      made = made_at s p c.of.result c.args.size c.args.allocator-id c.requires.vacant m c.clear.ensures t c.put.ensures c.args.name.now c.of.ensures c.requires.fresh.0 c.requires.fresh.1 c.requires.sized;
-      relaid = relaid_made s p c.of.result c.args.size c.args.allocator-id c.requires.vacant m c.clear.ensures t c.put.ensures;
+      made = made_at s p c.of.result c.args.size c.args.allocator_id c.requires.vacant m c.clear.ensures t c.put.ensures c.args.name.now c.of.ensures c.requires.fresh.0 c.requires.fresh.1 c.requires.sized;
+      relaid = relaid_made s p c.of.result c.args.size c.args.allocator_id c.requires.vacant m c.clear.ensures t c.put.ensures;
     }

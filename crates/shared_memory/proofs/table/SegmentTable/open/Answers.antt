@@ -10,16 +10,16 @@ use Rattle.shared_memory.proofs.table.SegmentTable.open.Goals as goal
 abbrev more : Slot → Slot
 more x = record { name = x.name; allocator_id = x.allocator_id; start = x.start; size = x.size; maps = x.maps + 1 }
 
-pub returns-then-not-is-good-name : goal.returns-then-not-is-good-name
-returns-then-not-is-good-name c =
+pub returns-then-not-is_good_name : goal.returns-then-not-is_good_name
+returns-then-not-is_good_name c =
     let s = c.args.self.now in record { does = λ rule. (OpenDenied.bad_name (search rules), same (under rule s)); relaid = unmoved s }
 
-pub returns-in-default : goal.returns-in-default
-returns-in-default c =
+pub returns-in_default : goal.returns-in_default
+returns-in_default c =
     let s = c.args.self.now in
-    let good = c.is-good-name.ensures.0 c.if-not-is-good-name.false in
+    let good = c.is_good_name.ensures.0 c.if-not-is_good_name.false in
     record {
-      does = λ rule. (OpenDenied.no_such_name good (no_name s c.args.name.now c.in-default.ensures rule), same (under rule s));
+      does = λ rule. (OpenDenied.no_such_name good (no_name s c.args.name.now c.in_default.ensures rule), same (under rule s));
       relaid = unmoved s;
     }
 
@@ -29,7 +29,7 @@ returns-then-slot c =
     let h = c.in-Some.handle in
     let x = c.in-Some.slot in
     let f = c.in-Some.ensures in
-    let good = c.is-good-name.ensures.0 c.if-not-is-good-name.false in
+    let good = c.is_good_name.ensures.0 c.if-not-is_good_name.false in
     record {
       does = λ rule. (OpenDenied.all_mapped good h (segment_of s x) (at_slot s h x f.0) f.1 (omega arith), same (under rule s));
       relaid = unmoved s;
@@ -53,7 +53,7 @@ returns c =
     let f : Follows s h (more x) = (x, e.0, refl) in
     record {
       does = λ rule. (
-        c.is-good-name.ensures.0 c.if-not-is-good-name.false,
+        c.is_good_name.ensures.0 c.if-not-is_good_name.false,
         record {
           segment = segment_of s x;
           found = at_slot s h x e.0;

@@ -3,12 +3,12 @@ use Rattle.shared_memory.specs.Meaning.{patched}
 use Rattle.shared_memory.proofs.Tabled.{refilled_bytes, refilled_facts}
 use Rattle.shared_memory.proofs.table.SegmentTable.overwrite.Goals as goal
 
-pub invariant-of-self : goal.invariant-of-self
-invariant-of-self c = refilled_facts c.args.self.now c.overwrite.new.all (omega arith)
+pub invariant_of-self : goal.invariant_of-self
+invariant_of-self c = refilled_facts c.args.self.now c.overwrite.new.all (omega arith)
 
 pub returns : goal.returns
 returns c =
     record {
       slots = refl;
-      bytes = refilled_bytes c.args.self.now c.overwrite.new.all (omega arith) ∙ (c.overwrite.ensures ∙ ap (λ xs. patched xs c.args.at c.args.bytes.now) c.as-mut-slice.ensures.value);
+      bytes = refilled_bytes c.args.self.now c.overwrite.new.all (omega arith) ∙ (c.overwrite.ensures ∙ ap (λ xs. patched xs c.args.at c.args.bytes.now) c.as_mut_slice.ensures.value);
     }

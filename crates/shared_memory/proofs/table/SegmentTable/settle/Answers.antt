@@ -11,7 +11,7 @@ returns-then-slot-eq0 c =
     let s = c.args.self.now in
     let t = c.put.new.self in
     record {
-      left = left_ceased s c.args.handle c.args.slot c.requires t c.put.ensures c.if-is-none.ensures c.if-slot-eq0.true;
+      left = left_ceased s c.args.handle c.args.slot c.requires t c.put.ensures c.if-is_none.ensures c.if-slot-eq0.true;
       relaid = relaid_freed s c.args.handle t c.put.ensures;
     }
 
@@ -25,6 +25,6 @@ returns c =
     let s = c.args.self.now in
     let t = c.put-2.new.self in
     record {
-      left = λ rule mono. left_stands s c.args.handle c.args.slot c.requires t c.put-2.ensures c.is-none.result c.is-none.ensures c.else-is-none.either rule;
+      left = λ rule mono. left_stands s c.args.handle c.args.slot c.requires t c.put-2.ensures c.is_none.result c.is_none.ensures c.else-is_none.either rule;
       relaid = relaid_follows s c.args.handle c.args.slot c.requires t c.put-2.ensures;
     }

@@ -13,7 +13,7 @@ returns c =
     let t = c.settle.new.self in
     let h = c.args.handle in
     let x = c.in-Some.slot in
-    let (name, is) = is_some x.name c.if-is-none.ensures in
+    let (name, is) = is_some x.name c.if-is_none.ensures in
     record {
       does = λ rule mono. (
         segment_of s x,
@@ -22,7 +22,7 @@ returns c =
         ap (over written) is,
         subst
             (λ m. Left (under rule s) h (segment_of s (record { name = None; allocator_id = x.allocator_id; start = x.start; size = x.size; maps = m })) (under rule t) c.settle.result)
-            c.saturating-sub-maps.ensures
+            c.saturating_sub-maps.ensures
             (c.settle.ensures.left rule mono),
       );
       relaid = c.settle.ensures.relaid;

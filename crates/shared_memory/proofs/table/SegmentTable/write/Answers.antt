@@ -5,19 +5,19 @@ use Rattle.shared_memory.proofs.Sounds.{same}
 use Rattle.shared_memory.proofs.Tabled.{at_slot, at_none, within_memory, segment_length, unmoved, relaid_patched, changes_patched}
 use Rattle.shared_memory.proofs.table.SegmentTable.write.Goals as goal
 
-pub returns-in-default : goal.returns-in-default
-returns-in-default c =
+pub returns-in_default : goal.returns-in_default
+returns-in_default c =
     let s = c.args.self.now in
-    record { does = λ rule. (AccessDenied.bad_handle (at_none s c.args.handle (sym c.in-default.ensures)), same (under rule s)); relaid = unmoved s }
+    record { does = λ rule. (AccessDenied.bad_handle (at_none s c.args.handle (sym c.in_default.ensures)), same (under rule s)); relaid = unmoved s }
 
-pub returns-in-default-place : goal.returns-in-default-place
-returns-in-default-place c =
+pub returns-in_default-place : goal.returns-in_default-place
+returns-in_default-place c =
     let s = c.args.self.now in
     let h = c.args.handle in
     let x = c.in-Some.slot in
     let e = sym c.in-Some.ensures in
     record {
-      does = λ rule. (AccessDenied.outside (segment_of s x) (at_slot s h x e) (omega (arith, segment_length s h x e, c.in-default-place.ensures)), same (under rule s));
+      does = λ rule. (AccessDenied.outside (segment_of s x) (at_slot s h x e) (omega (arith, segment_length s h x e, c.in_default-place.ensures)), same (under rule s));
       relaid = unmoved s;
     }
 
