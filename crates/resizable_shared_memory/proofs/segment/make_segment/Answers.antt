@@ -8,26 +8,26 @@ use Rattle.resizable_shared_memory.proofs.segment.make_segment.Goals as goal
 pub returns-then-hint-eq0 : goal.returns-then-hint-eq0
 returns-then-hint-eq0 g c = (size_zero c.if-hint-eq0.true, same _)
 
-pub returns-then-is-named : goal.returns-then-is-named
-returns-then-is-named g c =
+pub returns-then-is_named : goal.returns-then-is_named
+returns-then-is_named g c =
     let stands = Named (g.S.SegmentStore.means c.args.store.now) in
-    (name_stands (omega (arith, c.if-hint-eq0.false)) (subst stands c.as-bytes.ensures c.if-is-named.ensures), same _)
+    (name_stands (omega (arith, c.if-hint-eq0.false)) (subst stands c.as_bytes.ensures c.if-is_named.ensures), same _)
 
 pub returns-then-hint : goal.returns-then-hint
 returns-then-hint g c =
     let stands = Named (g.S.SegmentStore.means c.args.store.now) in
-    (too_large c.if-hint.true (λ n. c.if-is-named.ensures (subst stands (sym c.as-bytes.ensures) n)), same _)
+    (too_large c.if-hint.true (λ n. c.if-is_named.ensures (subst stands (sym c.as_bytes.ensures) n)), same _)
 
-pub returns-then-not-can-set-up : goal.returns-then-not-can-set-up
-returns-then-not-can-set-up g c =
+pub returns-then-not-can_set_up : goal.returns-then-not-can_set_up
+returns-then-not-can_set_up g c =
     let stands = Named (g.S.SegmentStore.means c.args.store.now) in
-    (impossible (omega (arith, c.if-hint-eq0.false)) (λ n. c.if-is-named.ensures (subst stands (sym c.as-bytes.ensures) n)) (sym c.can-set-up.ensures ∙ c.if-not-can-set-up.true), same _)
+    (impossible (omega (arith, c.if-hint-eq0.false)) (λ n. c.if-is_named.ensures (subst stands (sym c.as_bytes.ensures) n)) (sym c.can_set_up.ensures ∙ c.if-not-can_set_up.true), same _)
 
 pub returns : goal.returns
 returns g c =
     let s = g.S.SegmentStore.means c.args.store.now in
     let t = g.S.SegmentStore.means c.make.new.self in
     made_or_denied g.A.ShmAllocator.means s t _ c.args.hint c.requires (omega (arith, c.if-hint-eq0.false))
-    (λ n. c.if-is-named.ensures (subst (Named s) (sym c.as-bytes.ensures) n)) c.unique-id.result c.make.result c.unique-id.ensures (omega (arith, c.if-hint.false))
-    (sym c.can-set-up.ensures ∙ c.if-not-can-set-up.false)
-    (subst (λ (n : List ℕ). Makes s n c.args.hint.payload_size c.unique-id.result c.make.result t) c.as-bytes-2.ensures c.make.ensures)
+    (λ n. c.if-is_named.ensures (subst (Named s) (sym c.as_bytes.ensures) n)) c.unique_id.result c.make.result c.unique_id.ensures (omega (arith, c.if-hint.false))
+    (sym c.can_set_up.ensures ∙ c.if-not-can_set_up.false)
+    (subst (λ (n : List ℕ). Makes s n c.args.hint.payload_size c.unique_id.result c.make.result t) c.as_bytes-2.ensures c.make.ensures)

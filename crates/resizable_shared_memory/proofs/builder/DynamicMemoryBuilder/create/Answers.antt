@@ -8,37 +8,37 @@ use Rattle.resizable_shared_memory.proofs.Creating.{same_room, undone}
 use Rattle.resizable_shared_memory.proofs.Storing.{same, made_as}
 use Rattle.resizable_shared_memory.proofs.builder.DynamicMemoryBuilder.create.Goals as goal
 
-pub returns-in-err-base : goal.returns-in-err-base
-returns-in-err-base g c =
-    let p = err_from_is_err_and c.from-residual.result c.from-residual.ensures.1 in
-    rw (p.1, p.2) (bad_name c.in-err-base.ensures.0, same_room (same _))
+pub returns-in_err-base : goal.returns-in_err-base
+returns-in_err-base g c =
+    let p = err_from_is_err_and c.from_residual.result c.from_residual.ensures.1 in
+    rw (p.1, p.2) (bad_name c.in_err-base.ensures.0, same_room (same _))
 
-pub returns-in-default : goal.returns-in-default
-returns-in-default g c = (bad_layout c.in-ok-base.ensures.0 c.in-default.ensures, same_room (same _))
+pub returns-in_default : goal.returns-in_default
+returns-in_default g c = (bad_layout c.in_ok-base.ensures.0 c.in_default.ensures, same_room (same _))
 
-pub returns-in-err-management : goal.returns-in-err-management
-returns-in-err-management g c =
-    let p = err_from_is_err_and c.from-residual-in-err-management.result c.from-residual-in-err-management.ensures.1 in
+pub returns-in_err-management : goal.returns-in_err-management
+returns-in_err-management g c =
+    let p = err_from_is_err_and c.from_residual-in_err-management.result c.from_residual-in_err-management.ensures.1 in
     let α = g.A.ShmAllocator.means in
     let s = g.S.SegmentStore.means c.args.store.now in
-    let base = c.in-ok-base.ensures in
-    let denied = made_as α s _ (Err c.in-err-management.field-0.0) (ap management_name base.1) refl c.in-err-management.ensures in
+    let base = c.in_ok-base.ensures in
+    let denied = made_as α s _ (Err c.in_err-management.field-0.0) (ap management_name base.1) refl c.in_err-management.ensures in
     rw (p.1, p.2) (
       no_management base.0 c.in-Some.ensures.0 denied.0,
       same_room denied.1,
     )
 
-pub returns-in-err-segment : goal.returns-in-err-segment
-returns-in-err-segment g c =
-    let p = err_from_is_err_and c.from-residual-in-err-segment.result c.from-residual-in-err-segment.ensures.1 in
+pub returns-in_err-segment : goal.returns-in_err-segment
+returns-in_err-segment g c =
+    let p = err_from_is_err_and c.from_residual-in_err-segment.result c.from_residual-in_err-segment.ensures.1 in
     let α = g.A.ShmAllocator.means in
     let s = g.S.SegmentStore.means c.args.store.now in
-    let between = g.S.SegmentStore.means c.make-management.new.store in
-    let base = c.in-ok-base.ensures in
-    let o = c.in-ok-management.management in
-    let made = made_as α s between (Ok o) (ap management_name base.1) refl c.in-ok-management.ensures in
-    let denied = c.in-err-segment.ensures in
-    let first = made_as α between denied.0 (Err c.in-err-segment.field-0.0) (ap (λ (n : List ℕ). segment_name n 0) base.1) c.initial-setup-hint-hint.ensures denied.1 in
+    let between = g.S.SegmentStore.means c.make_management.new.store in
+    let base = c.in_ok-base.ensures in
+    let o = c.in_ok-management.management in
+    let made = made_as α s between (Ok o) (ap management_name base.1) refl c.in_ok-management.ensures in
+    let denied = c.in_err-segment.ensures in
+    let first = made_as α between denied.0 (Err c.in_err-segment.field-0.0) (ap (λ (n : List ℕ). segment_name n 0) base.1) c.initial_setup_hint-hint.ensures denied.1 in
     rw (p.1, p.2) (
       no_segment c.in-Some.layout base.0 c.in-Some.ensures.1 c.in-Some.ensures.2 made first.0,
       undone s between denied.0 _ _ _ _ o made.2 first.1 denied.2,
@@ -48,13 +48,13 @@ pub returns : goal.returns
 returns g c =
     let α = g.A.ShmAllocator.means in
     let s = g.S.SegmentStore.means c.args.store.now in
-    let between = g.S.SegmentStore.means c.make-management.new.store in
-    let t = g.S.SegmentStore.means c.make-first.new.store in
-    let base = c.in-ok-base.ensures in
+    let between = g.S.SegmentStore.means c.make_management.new.store in
+    let t = g.S.SegmentStore.means c.make_first.new.store in
+    let base = c.in_ok-base.ensures in
     let v = c.in-Some.layout in
-    let o = c.in-ok-management.management in
-    let q = c.in-ok-segment.segment in
-    let hinted = c.initial-setup-hint-hint.ensures in (
+    let o = c.in_ok-management.management in
+    let q = c.in_ok-segment.segment in
+    let hinted = c.initial_setup_hint-hint.ensures in (
       v,
       o,
       q,
@@ -63,8 +63,8 @@ returns g c =
         size = c.in-Some.ensures.1;
         align = c.in-Some.ensures.2;
         between = between;
-        management = made_as α s between (Ok o) (ap management_name base.1) refl c.in-ok-management.ensures;
-        first = made_as α between t (Ok q) (ap (λ (n : List ℕ). segment_name n 0) base.1) hinted c.in-ok-segment.ensures;
+        management = made_as α s between (Ok o) (ap management_name base.1) refl c.in_ok-management.ensures;
+        first = made_as α between t (Ok q) (ap (λ (n : List ℕ). segment_name n 0) base.1) hinted c.in_ok-segment.ensures;
       },
       record {
         name = base.1;

@@ -22,14 +22,14 @@ module _ {A C : Type 0} (α : Meaning A C) (s t : Store) (n : List ℕ) (h : Sha
   denied (Ok q) u is first gone = absurd (both_ways false refl is)
   denied (Err e) u is first gone = (t, first, gone)
 
-pub returns-then-is-err : goal.returns-then-is-err
-returns-then-is-err g c =
+pub returns-then-is_err : goal.returns-then-is_err
+returns-then-is_err g c =
     let name = c.segment.ensures.text ∙ ap (segment_name (text c.args.base.now)) c.new.ensures in
-    denied g.A.ShmAllocator.means _ (g.S.SegmentStore.means c.make-segment-made.new.store) (text c.args.base.now) c.args.hint c.args.management c.make-segment-made.result _ (sym c.if-is-err.ensures.value)
-    (made_as g.A.ShmAllocator.means _ _ c.make-segment-made.result name refl c.make-segment-made.ensures) (c.withdraw.result, c.withdraw.ensures)
+    denied g.A.ShmAllocator.means _ (g.S.SegmentStore.means c.make_segment-made.new.store) (text c.args.base.now) c.args.hint c.args.management c.make_segment-made.result _ (sym c.if-is_err.ensures.value)
+    (made_as g.A.ShmAllocator.means _ _ c.make_segment-made.result name refl c.make_segment-made.ensures) (c.withdraw.result, c.withdraw.ensures)
 
-pub returns-else-is-err : goal.returns-else-is-err
-returns-else-is-err g c =
+pub returns-else-is_err : goal.returns-else-is_err
+returns-else-is_err g c =
     let name = c.segment.ensures.text ∙ ap (segment_name (text c.args.base.now)) c.new.ensures in
-    made g.A.ShmAllocator.means _ _ (text c.args.base.now) c.args.hint c.args.management c.make-segment-made.result (sym c.if-is-err.ensures.value)
-    (made_as g.A.ShmAllocator.means _ _ c.make-segment-made.result name refl c.make-segment-made.ensures)
+    made g.A.ShmAllocator.means _ _ (text c.args.base.now) c.args.hint c.args.management c.make_segment-made.result (sym c.if-is_err.ensures.value)
+    (made_as g.A.ShmAllocator.means _ _ c.make_segment-made.result name refl c.make_segment-made.ensures)

@@ -10,17 +10,17 @@ use Rattle.resizable_shared_memory.proofs.memory.DynamicMemory.allocate_in_round
 pub loop-start-preserved : goal.loop-start-preserved
 loop-start-preserved g c =
     let refusal = c.in-Err.ensures in
-    let grown = grown_by g.A.ShmAllocator.means c.args.layout c.loop-start.self _ c.allocate.new.self c.in-Err.refusal refusal.0 refusal.1 _ _ c.in-ok-make-room.ensures in (
+    let grown = grown_by g.A.ShmAllocator.means c.args.layout c.loop-start.self _ c.allocate.new.self c.in-Err.refusal refusal.0 refusal.1 _ _ c.in_ok-make_room-in-Err.ensures in (
       (λ r n t rest. c.loop-start.invariant.0 r n t (again (refusal_number c.in-Err.refusal) refusal.0 grown.0 grown.1 rest)),
       omega (arith, ap length grown.1.tables.ledger, c.loop-start.invariant.1),
       omega (arith, grown.1.tables.grants, c.loop-start.invariant.2),
     )
 
-pub returns-in-err-make-room : goal.returns-in-err-make-room
-returns-in-err-make-room g c =
-    let p = err_from_is_err_and c.from-residual.result c.from-residual.ensures.1 in
+pub returns-in_err-make_room-in-Err : goal.returns-in_err-make_room-in-Err
+returns-in_err-make_room-in-Err g c =
+    let p = err_from_is_err_and c.from_residual.result c.from_residual.ensures.1 in
     let refusal = c.in-Err.ensures in
-    rw (p.1, p.2) (c.loop-start.invariant.0 _ _ _ (ends g.A.ShmAllocator.means c.args.layout c.loop-start.self _ c.allocate.new.self c.in-Err.refusal refusal.0 refusal.1 _ _ _ c.in-err-make-room.ensures))
+    rw (p.1, p.2) (c.loop-start.invariant.0 _ _ _ (ends g.A.ShmAllocator.means c.args.layout c.loop-start.self _ c.allocate.new.self c.in-Err.refusal refusal.0 refusal.1 _ _ _ c.in_err-make_room-in-Err.ensures))
 
 pub returns : goal.returns
 returns g c =

@@ -4,4 +4,4 @@ use Rattle.resizable_shared_memory.proofs.Turning.{turn_last}
 use Rattle.resizable_shared_memory.proofs.memory.DynamicMemory.end.Goals as goal
 
 pub returns : goal.returns
-returns g c = turn_last Withdrawn c.args.self.tables.management _ c.withdraw-all.ensures (c.withdraw.result, c.withdraw.ensures)
+returns g c = turn_last Withdrawn c.args.self.tables.management _ c.withdraw_all.ensures (c.withdraw.result, c.withdraw.ensures)

@@ -11,9 +11,9 @@ use Rattle.resizable_shared_memory.proofs.memory.DynamicMemory.from_record.Goals
 pub returns : goal.returns
 returns g c =
     let x = c.args.record in
-    let m : DynamicMemory g.row.A.Denot = memory_of c.set-up-allocator.result c.new-tables.result in
+    let m : DynamicMemory g.row.A.Denot = memory_of c.set_up-allocator.result c.new-tables.result in
     let made : Becomes g.A.ShmAllocator.means x m = record {
-      fresh = c.set-up-allocator.ensures;
-      tables = subst (λ (b : ℕ). Begins (text x.base) x.strategy x.management x.segment b c.new-tables.result) c.bucket-bucket-size.ensures c.new-tables.ensures;
+      fresh = c.set_up-allocator.ensures;
+      tables = subst (λ (b : ℕ). Begins (text x.base) x.strategy x.management x.segment b c.new-tables.result) c.bucket-bucket_size.ensures c.new-tables.ensures;
     } in
     record { becomes = made; completes = joined g.A.ShmAllocator.means x m made }

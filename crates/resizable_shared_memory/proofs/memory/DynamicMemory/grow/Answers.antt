@@ -8,30 +8,30 @@ use Rattle.resizable_shared_memory.specs.Moves.{Advances}
 use Rattle.resizable_shared_memory.proofs.Storing.{made_as}
 use Rattle.resizable_shared_memory.proofs.memory.DynamicMemory.grow.Goals as goal
 
-pub returns-then-id-max-segment-id : goal.returns-then-id-max-segment-id
-returns-then-id-max-segment-id g c = (refl, no_id refl (sym c.value-id.ensures ∙ (c.if-id-max-segment-id.true ∙ c.max-segment-id.ensures)))
+pub returns-then-id-max_segment_id : goal.returns-then-id-max_segment_id
+returns-then-id-max_segment_id g c = (refl, no_id refl (sym c.value-id.ensures ∙ (c.if-id-max_segment_id.true ∙ c.max_segment_id.ensures)))
 
-pub returns-in-err-opened : goal.returns-in-err-opened
-returns-in-err-opened g c =
-    let p = err_from_is_err_and c.from-residual.result c.from-residual.ensures.1 in
+pub returns-in_err-opened : goal.returns-in_err-opened
+returns-in_err-opened g c =
+    let p = err_from_is_err_and c.from_residual.result c.from_residual.ensures.1 in
     let named = segment_name (text c.args.self.now.tables.base) in
     let name = c.segment-name.ensures.text ∙ ap named (c.new.ensures ∙ ap (λ (i : ℕ). i + 1) c.value-id.ensures) in
-    rw (p.1, p.2) (refl, no_segment (omega arith) (made_as g.A.ShmAllocator.means _ _ (Err c.in-err-opened.field-0.0) name c.resize-hint-hint.ensures c.in-err-opened.ensures))
+    rw (p.1, p.2) (refl, no_segment (omega arith) (made_as g.A.ShmAllocator.means _ _ (Err c.in_err-opened.field-0.0) name c.resize_hint-hint.ensures c.in_err-opened.ensures))
 
 pub returns : goal.returns
 returns g c =
     let α = g.A.ShmAllocator.means in
-    let made = c.in-ok-opened.ensures in
+    let made = c.in_ok-opened.ensures in
     let named = segment_name (text c.args.self.now.tables.base) in
     let name = c.segment-name.ensures.text ∙ ap named (c.new.ensures ∙ ap (λ (i : ℕ). i + 1) c.value-id.ensures) in
-    let hinted = c.resize-hint-hint.ensures in
-    let between = g.S.SegmentStore.means c.make-segment.new.store in
+    let hinted = c.resize_hint-hint.ensures in
+    let between = g.S.SegmentStore.means c.make_segment.new.store in
     let after = g.S.SegmentStore.means c.advance.new.store in
     record {
       below = omega arith;
-      opened = c.in-ok-opened.opened;
+      opened = c.in_ok-opened.opened;
       between = between;
-      made = made_as α _ _ (Ok c.in-ok-opened.opened) name hinted made;
-      fresh = subst (λ (h : SharedMemorySetupHint g.row.A-Configuration.Denot). α.fresh h.config h.payload_size c.set-up.result) hinted (c.set-up.ensures made.1);
-      tables = subst (λ (b : ℕ). Advances c.args.self.now.tables between c.in-ok-opened.opened b c.advance.new.self after) c.bucket-bucket-size.ensures c.advance.ensures;
+      made = made_as α _ _ (Ok c.in_ok-opened.opened) name hinted made;
+      fresh = subst (λ (h : SharedMemorySetupHint g.row.A-Configuration.Denot). α.fresh h.config h.payload_size c.set_up.result) hinted (c.set_up.ensures made.1);
+      tables = subst (λ (b : ℕ). Advances c.args.self.now.tables between c.in_ok-opened.opened b c.advance.new.self after) c.bucket-bucket_size.ensures c.advance.ensures;
     }

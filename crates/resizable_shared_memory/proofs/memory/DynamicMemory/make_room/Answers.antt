@@ -6,4 +6,4 @@ pub returns-in-Static : goal.returns-in-Static
 returns-in-Static g c = inl (c.in-Static.is, ap Err c.from.ensures, refl, refl)
 
 pub returns : goal.returns
-returns g c = inr (c.in-default.not-Static, c.grow.ensures)
+returns g c = inr (c.in_default.not-Static, c.grow.ensures)

@@ -14,8 +14,8 @@ use Rattle.resizable_shared_memory.proofs.Storing.{same}
 use Rattle.resizable_shared_memory.proofs.memory.DynamicMemory.write.Goals as goal
 use Rattle.resizable_shared_memory.proofs.memory.DynamicMemory.write.Goals.{then-from-size-via-then-from-size, then-from-size-via-else-from-size+then-bytes-size}
 
-pub returns-in-default : goal.returns-in-default
-returns-in-default g c = (not_held c.in-default.ensures, same _)
+pub returns-in_default : goal.returns-in_default
+returns-in_default g c = (not_held c.in_default.ensures, same _)
 
 pub returns-then-from-size : goal.returns-then-from-size
 returns-then-from-size g c =
@@ -27,13 +27,13 @@ reached : {A : Type 0} (m : DynamicMemory A) (h : Held) (p : Place) (v g from si
     → Reached m v g from size p
 reached m h p v g from size held low few = record { chunk = entry h; found = held.0; fits = omega arith; there = held.1 }
 
-pub returns-in-err-write : goal.returns-in-err-write
-returns-in-err-write g c =
-    let p = err_from_is_err_and c.from-residual.result c.from-residual.ensures.1 in
+pub returns-in_err-write : goal.returns-in_err-write
+returns-in_err-write g c =
+    let p = err_from_is_err_and c.from_residual.result c.from_residual.ensures.1 in
     let s = g.S.SegmentStore.means c.args.store.now in
     let place = c.in-Some.reached.1 in
-    let denied = subst (λ (o : ℕ). AccessDenied s place.handle (o + c.args.from) (length c.args.bytes.now) (access_number c.in-err-write.field-0.0)) c.offset.ensures c.in-err-write.ensures.0 in
-    rw (p.1, p.2) (by_store place (reached c.args.self.now c.in-Some.reached.0 place _ _ _ _ c.in-Some.ensures c.if-from-size.false c.if-bytes-size.false) denied, c.in-err-write.ensures.1)
+    let denied = subst (λ (o : ℕ). AccessDenied s place.handle (o + c.args.from) (length c.args.bytes.now) (access_number c.in_err-write.field-0.0)) c.offset.ensures c.in_err-write.ensures.0 in
+    rw (p.1, p.2) (by_store place (reached c.args.self.now c.in-Some.reached.0 place _ _ _ _ c.in-Some.ensures c.if-from-size.false c.if-bytes-size.false) denied, c.in_err-write.ensures.1)
 
 pub returns : goal.returns
 returns g c =
@@ -42,5 +42,5 @@ returns g c =
     let place = c.in-Some.reached.1 in (
       place,
       reached c.args.self.now c.in-Some.reached.0 place _ _ _ _ c.in-Some.ensures c.if-from-size.false c.if-bytes-size.false,
-      subst (λ (o : ℕ). Writes s place.handle (o + c.args.from) c.args.bytes.now (Ok tt) t) c.offset.ensures c.in-ok-write.ensures,
+      subst (λ (o : ℕ). Writes s place.handle (o + c.args.from) c.args.bytes.now (Ok tt) t) c.offset.ensures c.in_ok-write.ensures,
     )

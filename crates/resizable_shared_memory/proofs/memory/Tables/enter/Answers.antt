@@ -14,34 +14,26 @@ push-requires c =
     let m = c.args.self.now in
     record { room = omega (arith, length_of m.ledger, c.requires.room); newest = λ i h. omega (arith, m.granted i h) }
 
-pub overflow-add-place : goal.overflow-add-place
-overflow-add-place c =
+pub overflow_add-place : goal.overflow_add-place
+overflow_add-place c =
     let m = c.args.self.now in
     let i = m.current.0 in
     omega (arith, m.counted i, ap count_of c.in-Some.ensures, tally_le i (entries_of m.ledger), c.requires.room)
 
-pub invariant-of-self : goal.invariant-of-self
-invariant-of-self c =
+pub invariant_of-self : goal.invariant_of-self
+invariant_of-self c =
     let m = c.args.self.now in
     let i = m.current.0 in
     let es = entries_of m.ledger in
     let new : Entry = record { value = packed c.args.start i; grant = m.given + 1; size = c.args.size } in
-    let others = c.put.ensures.others in (
-      ap is_some c.put.ensures.here,
-      (
-        ahead_others m.table c.put.new.self i i (le_refl i) others m.ahead,
-        (
-          busy_put m.table c.put.new.self i others m.busy,
-          (
-            counted_more m.table c.put.new.self es _ i _ _ new c.push.ensures (omega (arith, mapped_below m.table i m.mapped)) (sym c.in-Some.ensures) c.put.ensures c.with-count.ensures.3 m.counted,
-            (
-              subst (λ fs. GrantedUpTo fs (m.given + 1)) (sym c.push.ensures) (each_push es new (λ e. e.grant ≤ m.given + 1) (λ k h. omega (arith, m.granted k h)) (omega arith)),
-              tt,
-            ),
-          ),
-        ),
-      ),
-    )
+    let others = c.put.ensures.others in
+    record {
+      mapped = ap is_some c.put.ensures.here;
+      ahead = ahead_others m.table c.put.new.self i i (le_refl i) others m.ahead;
+      busy = busy_put m.table c.put.new.self i others m.busy;
+      counted = counted_more m.table c.put.new.self es _ i _ _ new c.push.ensures (omega (arith, mapped_below m.table i m.mapped)) (sym c.in-Some.ensures) c.put.ensures c.with_count.ensures.3 m.counted;
+      granted = subst (λ fs. GrantedUpTo fs (m.given + 1)) (sym c.push.ensures) (each_push es new (λ e. e.grant ≤ m.given + 1) (λ k h. omega (arith, m.granted k h)) (omega arith));
+    }
 
 pub returns : goal.returns
 returns c =
@@ -55,9 +47,9 @@ returns c =
       grant = refl;
       grants = refl;
       ledger = c.push.ensures ∙ ap with_value (sym c.offset.ensures);
-      counted = c.with-count.result;
+      counted = c.with_count.result;
       is_counted = c.put.ensures.here;
-      numbers = c.with-count.ensures;
+      numbers = c.with_count.ensures;
       others = c.put.ensures.others;
       stays = refl;
       kept = record { base = refl; strategy = refl; management = refl };

@@ -5,7 +5,7 @@ use Rattle.resizable_shared_memory.specs.Places.{handles}
 use Rattle.resizable_shared_memory.specs.Closings.{Closed, ClosesAll}
 use Rattle.resizable_shared_memory.proofs.Turning.{turn_empty, turn_mapped, turn_end}
 use Rattle.resizable_shared_memory.proofs.table.Table.close_all.Goals as goal
-use Rattle.resizable_shared_memory.proofs.table.Table.close_all.Goals.{in-Some, in-default}
+use Rattle.resizable_shared_memory.proofs.table.Table.close_all.Goals.{in-Some, in_default}
 
 pub loop-place-preserved : goal.loop-place-preserved
 loop-place-preserved g c u rest =
@@ -17,7 +17,7 @@ loop-place-preserved g c u rest =
     (elim c.match-place.branch [
       | in-Some w ↦ turn_mapped Closed ps i u _ _ w.in-Some.place within (let h : get_or ps i c.place-item.result ≡ Some w.in-Some.place = w.in-Some.is in same ∙ h) (w.close.result, w.close.ensures)
           (subst (λ (x : g.row.S.Denot). ClosesAll (handles (drop (i + 1) ps)) (g.S.SegmentStore.means x) u) w.store-is rest)
-      | in-default w ↦ turn_empty Closed ps i u _ within (let h : get_or ps i c.place-item.result ≡ None = w.in-default.is in same ∙ h)
+      | in_default w ↦ turn_empty Closed ps i u _ within (let h : get_or ps i c.place-item.result ≡ None = w.in_default.is in same ∙ h)
           (subst (λ (x : g.row.S.Denot). ClosesAll (handles (drop (i + 1) ps)) (g.S.SegmentStore.means x) u) w.store-is rest)
     ])
 

@@ -14,7 +14,7 @@ returns-then-place-gt1 g c =
     record {
       old = c.in-Some.place;
       was = sym c.in-Some.ensures;
-      lowered = inr (stays, refl, (c.with-count.result, c.put.ensures.here, c.with-count.ensures));
+      lowered = inr (stays, refl, (c.with_count.result, c.put.ensures.here, c.with_count.ensures));
       others = c.put.ensures.others;
     }
 

@@ -10,16 +10,16 @@ returns-then-place-eq4294967295 c s = (registrations_full c.requires.still_open 
 
 pub returns : goal.returns
 returns c s =
-    let put = put_at c.segment-id.ensures c.put.ensures in (
+    let put = put_at c.segment_id.ensures c.put.ensures in (
       c.requires.still_open,
       inl (
         record {
           there = c.args.place;
           was = c.requires.there;
           few = omega (arith, c.if-place-eq4294967295.false);
-          counted = c.with-count-counted.result;
+          counted = c.with_count-counted.result;
           is = put.here;
-          numbers = c.with-count-counted.ensures;
+          numbers = c.with_count-counted.ensures;
           told = ap (λ o. c.args.place.address + o) c.offset.ensures;
           others = put.others;
           current = refl;

@@ -5,7 +5,7 @@ use Rattle.resizable_shared_memory.proofs.Viewing.{but_places, current_there}
 use Rattle.resizable_shared_memory.proofs.view.DynamicView.leave.Goals as goal
 
 pub unreachable-requires : goal.unreachable-requires
-unreachable-requires g c = both_ways _ (ap is_some (sym c.in-default-get.ensures)) (current_there c.args.self.now _ (c.in-Some.id, c.in-Some.is, refl))
+unreachable-requires g c = both_ways _ (ap is_some (sym c.in_default-get.ensures)) (current_there c.args.self.now _ (c.in-Some.id, c.in-Some.is, refl))
 
 pub returns : goal.returns
 returns g c =
