@@ -1,3 +1,5 @@
+#![tactic(auto)]
+
 use answer::Answer;
 use report::Report;
 use shm_allocator::ShmAllocator;

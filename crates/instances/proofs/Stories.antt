@@ -1,9 +1,9 @@
 -- The worked instances hold: each call of the story is followed from the pool's free buckets to the chunk's value.
-use Rattle.std.proofs.Common.{◌≡◌, ℕ, ◌+◌, ◌*◌, ◌/◌, ◌<◌, ◌≤◌, max, Bool, true, false, cond, ◌&&◌, ◌||◌, ltb, ◌⊎◌, List, [], ◌∷◌, ◌++◌, length, replicate, Some, None, Ok, Err, Result, sym, refl, ap, ◌∙◌, subst, ap₂, inl, inr, arith, lit≤}
+use Rattle.std.proofs.Common.{◌≡◌, ℕ, ◌+◌, ◌*◌, ◌/◌, ◌≤◌, max, false, cond, ◌&&◌, ◌||◌, ltb, List, [], ◌∷◌, ◌++◌, length, Some, None, Ok, Err, Result, sym, refl, ap, ◌∙◌, subst, ap₂, inl, inr, arith, lit≤}
 use lib.ListN.{length-replicate}
 use Rattle.std.specs.List.{range_with_len}
 use Rattle.pointer_offset.specs.Packing.{packed, id_of, offset_of}
-use Rattle.shared_memory.specs.Meaning.{Store, Segment}
+use Rattle.shared_memory.specs.Meaning.{Store}
 use Rattle.shm_allocator.specs.Instances.{Asks, Holds, hinted}
 use Rattle.shm_allocator.specs.Meaning.{Answer, Taken, refusal_number}
 use Rattle.shm_allocator.specs.Meaning.Answer.{start, refused}
@@ -29,7 +29,6 @@ use Rattle.resizable_shared_memory.specs.Parts.{current, place, chunks, given}
 use Rattle.resizable_shared_memory.specs.declared.fault.ResizableShmAllocationError.{ResizableShmAllocationError}
 use Rattle.resizable_shared_memory.specs.declared.fault.ResizableShmAllocationError.TheVariants as fault
 use Rattle.resizable_shared_memory.specs.declared.memory.Chunk.{Chunk}
-use Rattle.resizable_shared_memory.specs.declared.memory.DynamicMemory.{DynamicMemory}
 use Rattle.resizable_shared_memory.specs.declared.table.Place.{Place}
 use Rattle.instances.specs.Instances.{PoolMemory, asked, BothTaken, OneBack, Payload, NotHeldAnswer, DeniedBy, Instances}
 

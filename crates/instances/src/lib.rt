@@ -1,3 +1,5 @@
+#![tactic(auto)]
+
 ghost use Rattle.instances.specs.Instances.{Instances};
 
 // Its contract is the theorem: the worked instances of docs/RULES.md.

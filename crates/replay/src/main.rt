@@ -1,3 +1,5 @@
+#![tactic(auto)]
+
 use desk::Desk;
 use outcome::{Done, NotDone, Outcome};
 use report::Report;

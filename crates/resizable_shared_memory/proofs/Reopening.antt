@@ -1,5 +1,5 @@
 -- A segment that is opened and closed again leaves its store the same.
-use Rattle.std.proofs.Common.{◌≡◌, ℕ, ◌+◌, ◌-◌, Bool, List, Some, None, Ok, Err, Option, Result, sym, refl, ap, ◌∙◌, subst, subst₂, ⊎_elim, arith}
+use Rattle.std.proofs.Common.{◌≡◌, ℕ, ◌+◌, ◌-◌, Bool, List, Some, None, Ok, Err, Option, Result, sym, ap, ◌∙◌, subst, subst₂, ⊎_elim, arith}
 use Rattle.std.proofs.lemmas.Bool.{cases_eq}
 use Rattle.shared_memory.specs.declared.fault.Opened.{Opened}
 use Rattle.shared_memory.specs.declared.fault.BadHandle.{BadHandle}

@@ -1,5 +1,5 @@
 -- What stays of a viewer's places while one of them is put.
-use Rattle.std.proofs.Common.{◌≡◌, ℕ, true, false, ◌⊎◌, is_some, Some, None, Option, sym, refl, ap, ◌∙◌, subst, inl, inr}
+use Rattle.std.proofs.Common.{◌≡◌, ℕ, true, is_some, Some, None, Option, sym, refl, ap, ◌∙◌, subst, inl, inr}
 use Rattle.std.proofs.lemmas.Bool.{both_ways}
 use Rattle.pointer_offset.specs.declared.segment_id.SegmentId.{SegmentId}
 use Rattle.shared_memory.specs.Meaning.{Store}

@@ -1,4 +1,5 @@
 // Ported from src/shared_memory/mod.rs and src/shared_memory/common.rs of crate iceoryx2-cal 0.9.3; see NOTICE.
+#![tactic(auto)]
 
 ghost use Rattle.shared_memory.specs.Meaning.{Store, room, Empty, Named, Makes, Opens, Withdraws, Closes, Reads, Writes, size_at};
 ghost use Rattle.std.specs.Prelude.{◌≡◌, MatchBool};

@@ -23,7 +23,7 @@ fn ids_are_written_in_decimal(rt: HostRuntime) -> Result<(), Fail> {
 #[test]
 fn management_has_a_name_of_its_own(rt: HostRuntime) -> Result<(), Fail> {
     let name = BaseName::new(b"a")?.management();
-    assert_eq!(rt; name.as_bytes(), b"a__mgmt");
+    assert_eq!(rt; name.as_bytes(), b"a__mgmt".as_slice());
     Ok(())
 }
 

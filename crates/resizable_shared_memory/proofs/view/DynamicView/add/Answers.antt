@@ -1,5 +1,5 @@
 -- A place that is mapped counts one registration more, as long as it can be counted.
-use Rattle.std.proofs.Common.{◌≡◌, ◌+◌, refl, ap, inl, arith}
+use Rattle.std.proofs.Common.{◌+◌, refl, ap, inl, arith}
 use Rattle.resizable_shared_memory.specs.Viewer.RegisterDenied.{registrations_full}
 use Rattle.resizable_shared_memory.proofs.Storing.{same}
 use Rattle.resizable_shared_memory.proofs.Viewing.{put_at, but_places}

@@ -1,5 +1,5 @@
 -- The current place is mapped, and is emptied if nothing is registered there.
-use Rattle.std.proofs.Common.{◌≡◌, is_some, sym, refl, ap, inl, arith}
+use Rattle.std.proofs.Common.{is_some, sym, refl, ap, inl, arith}
 use Rattle.std.proofs.lemmas.Bool.{both_ways}
 use Rattle.resizable_shared_memory.proofs.Viewing.{but_places, current_there}
 use Rattle.resizable_shared_memory.proofs.view.DynamicView.leave.Goals as goal

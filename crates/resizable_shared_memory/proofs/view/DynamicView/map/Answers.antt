@@ -1,5 +1,5 @@
 -- The segment of a first registration becomes current, and the one before is left.
-use Rattle.std.proofs.Common.{◌≡◌, ◌+◌, is_some, Some, Ok, refl, ap, ◌∙◌, inr}
+use Rattle.std.proofs.Common.{◌+◌, is_some, Some, Ok, refl, ap, ◌∙◌, inr}
 use Rattle.std.proofs.lemmas.Result.{err_from_is_err_and}
 use Rattle.pointer_offset.specs.Packing.{id_of}
 use Rattle.shared_memory.specs.Names.{text, segment_name}

@@ -1,5 +1,5 @@
 -- Each denial comes in its order: the name, the store's own, then the other allocator.
-use Rattle.std.proofs.Common.{◌≡◌, Ok, refl, ap, ◌∙◌}
+use Rattle.std.proofs.Common.{Ok, refl, ap, ◌∙◌}
 use Rattle.std.proofs.lemmas.Result.{err_from_is_err_and}
 use Rattle.shared_memory.specs.Names.{management_name}
 use Rattle.resizable_shared_memory.specs.Viewer.OpenViewDenied.{bad_base_name, no_management}

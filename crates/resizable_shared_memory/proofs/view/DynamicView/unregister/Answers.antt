@@ -1,5 +1,5 @@
 -- The last registration in a segment that is not current empties its place.
-use Rattle.std.proofs.Common.{◌≡◌, ℕ, ◌<◌, ◌⊎◌, refl, subst, inl, inr, arith}
+use Rattle.std.proofs.Common.{ℕ, ◌<◌, ◌⊎◌, refl, subst, inl, inr, arith}
 use Rattle.pointer_offset.specs.Packing.{id_of}
 use Rattle.resizable_shared_memory.specs.Viewer.{IsCurrent}
 use Rattle.resizable_shared_memory.specs.Viewer.UnregisterDenied.{viewer_closed, not_mapped, not_registered}

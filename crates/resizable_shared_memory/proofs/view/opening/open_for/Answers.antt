@@ -1,5 +1,4 @@
 -- A map of another allocator's segment is taken again, and the store is the same.
-use Rattle.std.proofs.Common.{◌≡◌, sym}
 use Rattle.std.proofs.lemmas.Result.{err_from_is_err_and}
 use Rattle.resizable_shared_memory.specs.Viewer.OpenForDenied.{by_store, other_allocator}
 use Rattle.resizable_shared_memory.proofs.Reopening.{reopened}
