@@ -11,19 +11,11 @@ work=$(mktemp -d)
 trap 'rm -rf "$work"' EXIT
 mkdir -p "$work/crates/program/src"
 for library in $libraries; do
+    # With it comes what the library was proved by before, if anything, which saves proving it here.
     cp -r "$root/crates/$library" "$work/crates/"
     grep "^$library:" "$root/crates.txt" >>"$work/crates.txt"
 done
 echo "program: $libraries" >>"$work/crates.txt"
-# What the libraries were proved by before, if anything, saves proving them here.
-if [ -d "$root/target/rlib" ] && [ -d "$root/target/stamp" ]; then
-    mkdir "$work/target"
-    for library in $libraries; do
-        for kept in rlib/$library.rlib stamp/$library inc/$library; do
-            [ ! -e "$root/target/$kept" ] || { mkdir -p "$work/target/$(dirname "$kept")"; cp -r "$root/target/$kept" "$work/target/$kept"; }
-        done
-    done
-fi
 
 passed=0
 failed=0
@@ -32,7 +24,7 @@ for text in "$here"/*.txt; do
     expected=$(sed -n '1s,^// Answer: ,,p' "$text")
     cp "$text" "$work/crates/program/src/lib.rt"
     answer=0
-    (cd "$work" && rt dev program) >"$work/log" 2>&1 || answer=$?
+    (cd "$work/crates/program" && rt check) >"$work/log" 2>&1 || answer=$?
     if [ "$expected" = proved ]; then
         verdict=$([ "$answer" -eq 0 ] && grep -q '^logic=proved' "$work/log" && echo yes || echo no)
     else
