@@ -26,8 +26,8 @@ module _ (xs new : List ℕ) (at : ℕ) (fit : at + length new ≤ length xs) wh
 pub length_part : (xs : List ℕ) (b n : ℕ) → b + n ≤ length xs → length (part xs b n) ≡ n
 length_part xs b n le = simp (length-take, length-drop) (omega arith)
 
-get_d_part : (xs : List ℕ) (b n k d : ℕ) → k < n → get_or (part xs b n) k d ≡ get_or xs (b + k) d
-get_d_part xs b n k d lt = get_or-take n (drop b xs) k d lt ∙ get_or-drop b xs k d
+get_or_part : (xs : List ℕ) (b n k d : ℕ) → k < n → get_or (part xs b n) k d ≡ get_or xs (b + k) d
+get_or_part xs b n k d lt = get_or-take n (drop b xs) k d lt ∙ get_or-drop b xs k d
 
 module _ (xs new : List ℕ) (at : ℕ) (fit : at + length new ≤ length xs) (b n : ℕ) where
   short : (ys : List ℕ) (k : ℕ) → k < length (part ys b n) → k < n
@@ -38,16 +38,16 @@ module _ (xs new : List ℕ) (at : ℕ) (fit : at + length new ≤ length xs) (b
   part_outside out =
       same_lists _ _ (simp (length-take, length-drop) (rw (length_patched xs new at fit))) λ k d h.
       let kn = short (patched xs at new) k h in
-      get_d_part (patched xs at new) b n k d kn
+      get_or_part (patched xs at new) b n k d kn
       ∙ (⊎_elim (λ lo. get_or_patched_low xs new at fit (b + k) d (omega arith)) (λ hi. get_or_patched_high xs new at fit (b + k) d (omega arith)) out
-      ∙ sym (get_d_part xs b n k d kn))
+      ∙ sym (get_or_part xs b n k d kn))
 
   -- a part that the new bytes lie in
   pub part_around : (from : ℕ) → at ≡ b + from → from + length new ≤ n → b + n ≤ length xs → part (patched xs at new) b n ≡ patched (part xs b n) from new
   part_around from e lt le =
       same_lists _ _ lengths λ k d h.
       let kn = short (patched xs at new) k h in
-      get_d_part (patched xs at new) b n k d kn ∙ here k d kn
+      get_or_part (patched xs at new) b n k d kn ∙ here k d kn
     where
       fits : from + length new ≤ length (part xs b n)
       fits = omega (arith, length_part xs b n le)
@@ -58,10 +58,10 @@ module _ (xs new : List ℕ) (at : ℕ) (fit : at + length new ≤ length xs) (b
       here : (k d : ℕ) → k < n → get_or (patched xs at new) (b + k) d ≡ get_or (patched (part xs b n) from new) k d
       here k d kn =
           ⊎_elim
-          (λ low. get_or_patched_low xs new at fit (b + k) d (omega arith) ∙ (sym (get_d_part xs b n k d kn) ∙ sym (get_or_patched_low (part xs b n) new from fits k d low)))
+          (λ low. get_or_patched_low xs new at fit (b + k) d (omega arith) ∙ (sym (get_or_part xs b n k d kn) ∙ sym (get_or_patched_low (part xs b n) new from fits k d low)))
           (λ up. ⊎_elim
           (λ mid. get_or_patched_mid xs new at fit (b + k) d (omega arith) (omega arith) ∙ (ap (λ i. get_or new i d) (let i : b + k - at ≡ k - from = omega arith in i) ∙ sym (get_or_patched_mid (part xs b n) new from fits k d up mid)))
-          (λ high. get_or_patched_high xs new at fit (b + k) d (omega arith) ∙ (sym (get_d_part xs b n k d kn) ∙ sym (get_or_patched_high (part xs b n) new from fits k d high)))
+          (λ high. get_or_patched_high xs new at fit (b + k) d (omega arith) ∙ (sym (get_or_part xs b n k d kn) ∙ sym (get_or_patched_high (part xs b n) new from fits k d high)))
           (cases_lt k (from + length new)))
           (cases_lt k from)
 
@@ -70,9 +70,9 @@ pub part_part : (xs : List ℕ) (b n from size : ℕ) → from + size ≤ n → 
 part_part xs b n from size le =
     same_lists _ _ lengths λ k d h.
     let kn : k < size = omega (arith, length-take size (drop (b + from) xs)) in
-    get_d_part xs (b + from) size k d kn
+    get_or_part xs (b + from) size k d kn
     ∙ (ap (λ i. get_or xs i d) (let i : b + from + k ≡ b + (from + k) = omega arith in i)
-    ∙ (sym (get_d_part xs b n (from + k) d (omega arith)) ∙ sym (get_d_part (part xs b n) from size k d kn)))
+    ∙ (sym (get_or_part xs b n (from + k) d (omega arith)) ∙ sym (get_or_part (part xs b n) from size k d kn)))
   where
     lengths : length (part xs (b + from) size) ≡ length (part (part xs b n) from size)
     lengths = simp (length-take, length-drop) (omega arith)
@@ -82,7 +82,7 @@ pub part_written : (xs new : List ℕ) (at : ℕ) → at + length new ≤ length
 part_written xs new at fit =
     same_lists _ _ lengths λ k d h.
     let kn : k < length new = omega (arith, lengths) in
-    get_d_part (patched xs at new) at (length new) k d kn
+    get_or_part (patched xs at new) at (length new) k d kn
     ∙ (get_or_patched_mid xs new at fit (at + k) d (omega arith) (omega arith)
     ∙ ap (λ i. get_or new i d) (let i : at + k - at ≡ k = omega arith in i))
   where

@@ -56,7 +56,7 @@ pub trait SegmentStore {
         ensures { MatchBool result (Named (means self.now) name.now) (Named (means self.now) name.now → ⊥) };
 
     fn payload_size(&self, handle: u16) -> Option<u64>
-        ensures { result ≡ «size_at» (means self.now) handle };
+        ensures { result ≡ size_at (means self.now) handle };
 
     // Whether no segment stands.
     fn is_empty(&self) -> bool
