@@ -10,6 +10,7 @@ the checker makes, names of the library, strings, inputs and outputs stay.
 import os
 import re
 import sys
+from collections import Counter
 
 DEFINED = re.compile(r"^\s*(?:(?:pub|abbrev|unfoldable) )*([^\s:(){}]+(?: [^\s:(){}]+)*) : (.*)$")
 TYPE = re.compile(r"^\s*(?:pub )?(?:record|data) (\S+)")
@@ -62,11 +63,12 @@ def respelled(name):
 
 def main(argv):
     root = argv[0] if argv else os.path.join(os.path.dirname(os.path.realpath(__file__)), "..")
-    names = {name: respelled(name) for name in defined(root)}
-    names = {old: new for old, new in names.items() if old != new}
-    together = {new for new in names.values() if list(names.values()).count(new) > 1 or new in defined(root)}
+    own = defined(root)
+    names = {name: respelled(name) for name in own if respelled(name) != name}
+    meet = Counter([*names.values(), *(own - names.keys())])
+    together = sorted(name for name, times in meet.items() if times > 1)
     if together:
-        print("respell: names that fall together: " + ", ".join(sorted(together)), file=sys.stderr)
+        print("respell: names that fall together: " + ", ".join(together), file=sys.stderr)
         return 1
     turn = lambda text: WORD.sub(lambda m: names.get(m.group(0), m.group(0)), text)
     changed = 0
