@@ -1,41 +1,16 @@
-use shm_allocator::layout::{Layout, ValidLayout};
-use std::test::Fail;
+use shm_allocator::layout::{BadLayout, Layout, ValidLayout};
 
-pub fn layout(size: u64, align: u64) -> Result<ValidLayout, Fail> {
-    match (Layout { size, align }).validated() {
-        Some(layout) => Ok(layout),
-        None => Err(Fail::new("no layout")),
-    }
+pub fn layout(size: u64, align: u64) -> Result<ValidLayout, BadLayout> {
+    ValidLayout::try_from(Layout { size, align })
 }
 
 #[test]
 fn limits(rt: HostRuntime) {
-    assert!(rt; Layout { size: 0, align: 1 }.validated().is_none());
-    assert!(rt; Layout { size: 1, align: 1 }.validated().is_some());
-    assert!(rt;
-        Layout {
-            size: 16_777_216,
-            align: 65_536,
-        }
-        .validated()
-        .is_some()
-    );
-    assert!(rt;
-        Layout {
-            size: 16_777_217,
-            align: 1,
-        }
-        .validated()
-        .is_none()
-    );
-    assert!(rt;
-        Layout {
-            size: 1,
-            align: 131_072,
-        }
-        .validated()
-        .is_none()
-    );
-    assert!(rt; Layout { size: 1, align: 0 }.validated().is_none());
-    assert!(rt; Layout { size: 1, align: 24 }.validated().is_none());
+    assert!(rt; layout(0, 1).is_err());
+    assert!(rt; layout(1, 1).is_ok());
+    assert!(rt; layout(16_777_216, 65_536).is_ok());
+    assert!(rt; layout(16_777_217, 1).is_err());
+    assert!(rt; layout(1, 131_072).is_err());
+    assert!(rt; layout(1, 0).is_err());
+    assert!(rt; layout(1, 24).is_err());
 }

@@ -1,7 +1,7 @@
 use crate::answer::{Answer, Counts};
 use crate::stage::{Finding, Stage, found};
 use crate::words::{Call, Creation};
-use pointer_offset::{PointerOffset, SegmentId};
+use pointer_offset::{Denial, PointerOffset, SegmentId};
 use shm_allocator::layout::{Layout, ValidLayout};
 use shm_allocator::{AllocationStrategy, SharedMemorySetupHint, ShmAllocationError, ShmAllocator};
 use std::alloc::{AllocError, Global};
@@ -71,7 +71,7 @@ impl<A: ShmAllocator> Subject<A> {
         answer: Answer,
         counts: &mut Counts,
     ) -> Result<Subject<A>, Finding> {
-        let Some(layout) = creation.layout.validated() else {
+        let Ok(layout) = ValidLayout::try_from(creation.layout) else {
             return Err(Finding::Misplaced);
         };
         if answer == Answer::NotCreated(NOT_MADE) {
@@ -172,7 +172,7 @@ impl<A: ShmAllocator> Subject<A> {
         made: &[u64],
         counts: &mut Counts,
     ) -> Result<Finding, AllocError> {
-        let Some(layout) = layout.validated() else {
+        let Ok(layout) = ValidLayout::try_from(layout) else {
             return Ok(Finding::Misplaced);
         };
         for payload in made {

@@ -1,3 +1,4 @@
+use pointer_offset::Denial;
 use crate::memories::{frames, holdings, layout, memory};
 use resizable_shared_memory::builder::DynamicMemoryBuilder;
 use resizable_shared_memory::memory::DynamicMemory;

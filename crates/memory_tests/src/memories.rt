@@ -1,3 +1,4 @@
+use pointer_offset::Denial;
 use resizable_shared_memory::builder::DynamicMemoryBuilder;
 use resizable_shared_memory::fault::ResizableShmAllocationError;
 use resizable_shared_memory::memory::{Chunk, DynamicMemory};

@@ -1,3 +1,4 @@
+use pointer_offset::Denial;
 use crate::memories::{frames, holdings, layout, memory};
 use resizable_shared_memory::fault::ChunkWriteError;
 use resizable_shared_memory::memory::DynamicMemory;

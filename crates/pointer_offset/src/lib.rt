@@ -5,19 +5,21 @@ ghost use Rattle.std.specs.Prelude.{◌≡◌, ◌+◌, ◌*◌, ◌<◌, ◌≤
 ghost use Rattle.pointer_offset.specs.Packing.{packed, packing, offset_of, id_of, with_id, offset_number, Lossless};
 ghost use Rattle.pointer_offset.specs.Packing.Packing.{packs, denied};
 
+pub use denial::Denial;
 pub use segment_id::SegmentId;
 use std::fmt;
 
+mod denial;
 mod segment_id;
 
 // An offset that leaves no room for a segment id beside it.
 #[derive(Clone, Copy, PartialEq, Eq, Debug)]
 pub struct OffsetTooLarge;
 
-impl OffsetTooLarge {
-    pub fn number(&self) -> u8
-        ensures { result ≡ offset_number self.now }
-    {
+impl Denial for OffsetTooLarge {
+    ghost number_of = { offset_number };
+
+    fn number(&self) -> u8 {
         3
     }
 }

@@ -1,19 +1,20 @@
 #![tactic(auto)]
 
-use desk::Desk;
-use outcome::{Done, NotDone, Outcome};
+use list::{List, Part, Step};
+use outcome::CallError;
 use report::Report;
+use setup::Begun;
 use shared_memory::SegmentStore;
 use shared_memory::fault::StoreError;
 use shared_memory::frame_store::FrameStore;
-use shared_memory::quota_store::QuotaStore;
 use shared_memory::span_store::SpanStore;
-use shelf::Shelf;
 use std::io::{BufRead, BufReader};
-use words::{Call, Kind, Line, read_line};
-use workplace::Workplace;
+use words::{Kind, Shape};
+use workplace::{Nowhere, Workplace};
 
+mod byte_range;
 mod desk;
+mod list;
 mod outcome;
 mod report;
 mod setup;
@@ -26,129 +27,93 @@ fn main(rt: HostRuntime) -> anyhow::Result<()> {
 }
 
 fn replay(rt: &HostRuntime) -> anyhow::Result<()> {
-    let mut lines: Vec<String> = Vec::new(rt.alloc());
-    for line in BufReader::new(rt.alloc(), rt.stdin())?.lines(rt.alloc()) {
-        lines.push(line?)?;
+    let heap = rt.alloc();
+    let lines: Vec<String> = BufReader::new(heap, rt.stdin())?
+        .lines(heap)
+        .try_collect(heap)?;
+    let list = List::read(heap, &lines)?;
+    let mut report = Report::new(rt);
+    work(&mut report, &list.before, Nowhere)?;
+    for part in &list.parts {
+        replay_part(&mut report, part)?;
     }
-    replay_lines(rt, lines.as_slice())
+    report.end()
 }
 
-// A list is made of parts, each of which begins by setting something up.
-fn replay_lines<'a>(rt: &'a HostRuntime, lines: &'a [String]) -> anyhow::Result<()> {
-    let mut report = Report::new(rt.alloc());
-    let mut done = 0usize;
-    for (place, line) in lines.iter().enumerate() {
-        if place < done {
-            continue;
-        }
-        match read_line(rt.alloc(), line.as_str())? {
-            Line::Empty => report.pass(),
-            Line::Other => report.other(rt, line.as_str())?,
-            Line::Call(Call::SetUp(kind)) => {
-                let part = Part {
-                    rt,
-                    line: line.as_str(),
-                    rest: &lines[place + 1..],
-                };
-                let carried = begin(&part, &mut report, kind)?;
-                done = place.saturating_add(1).saturating_add(carried);
-            }
-            Line::Call(_) => report.call(
-                rt,
-                line.as_str(),
-                &Outcome::NotDone(NotDone::NothingSetUp),
-            )?,
-        }
-    }
-    report.end(rt)
-}
-
-// The line that begins a part, and what follows it.
-#[derive(Clone, Copy)]
-struct Part<'a> {
-    rt: &'a HostRuntime,
-    line: &'a str,
-    rest: &'a [String],
-}
-
-// Carries out a part; how many lines there were after its first.
-fn begin(part: &Part<'_>, report: &mut Report, kind: Kind) -> anyhow::Result<usize> {
-    let heap = part.rt.alloc();
-    match kind {
+fn replay_part(report: &mut Report<'_>, part: &Part<'_>) -> anyhow::Result<()> {
+    let heap = report.rt.alloc();
+    match part.kind {
         Kind::Pool {
             bucket_layout,
             payload,
-        } => match setup::pool(bucket_layout, payload) {
-            Ok(pool) => {
-                let told = setup::told_of_pool(&pool);
-                work(part, report, Desk::new(heap, pool), told)
-            }
-            Err(reason) => turn_away(part, report, reason),
-        },
-        Kind::Bump { payload } => match setup::bump(payload) {
-            Ok(bump) => {
-                let told = setup::told_of_bump(&bump);
-                work(part, report, Desk::new(heap, bump), told)
-            }
-            Err(reason) => turn_away(part, report, reason),
-        },
-        Kind::Frames {
-            frames,
-            size,
+        } => begin(report, part, setup::pool(heap, bucket_layout, payload)),
+        Kind::Bump { payload } => begin(report, part, setup::bump(heap, payload)),
+        Kind::Store {
+            shape: Shape::Frames { count, size },
             quota,
-        } => match FrameStore::new(heap, frames as usize, size as usize) {
-            Ok(store) => begin_store(part, report, store, quota),
-            Err(e) => turn_away(part, report, NotDone::NoStore(e)),
-        },
-        Kind::Span { pages, quota } => match SpanStore::new(heap, pages as usize) {
-            Ok(store) => begin_store(part, report, store, quota),
-            Err(e) => turn_away(part, report, NotDone::NoStore(e)),
-        },
+        } => {
+            let store = FrameStore::new(heap, count as usize, size as usize);
+            begin_store(report, part, store, quota)
+        }
+        Kind::Store {
+            shape: Shape::Span { pages },
+            quota,
+        } => {
+            let store = SpanStore::new(heap, pages as usize);
+            begin_store(report, part, store, quota)
+        }
     }
 }
 
 fn begin_store<S: SegmentStore + Drop>(
+    report: &mut Report<'_>,
     part: &Part<'_>,
-    report: &mut Report,
-    store: S,
+    store: Result<S, StoreError>,
     quota: Option<u64>,
-) -> anyhow::Result<usize> {
-    let heap = part.rt.alloc();
-    let Some(quota) = quota else {
-        return work(part, report, Shelf::new(heap, store), Done::Store);
-    };
-    match QuotaStore::new(store, quota) {
-        Ok(store) => work(part, report, Shelf::new(heap, store), Done::Store),
-        Err(_) => turn_away(part, report, NotDone::NoStore(StoreError::BadStore)),
-    }
-}
-
-fn turn_away(part: &Part<'_>, report: &mut Report, reason: NotDone) -> anyhow::Result<usize> {
-    report.call(part.rt, part.line, &Outcome::NotDone(reason))?;
-    Ok(0)
-}
-
-// The lines of a part, up to the next setup.
-fn work<W: Workplace>(
-    part: &Part<'_>,
-    report: &mut Report,
-    mut workplace: W,
-    told: Done,
-) -> anyhow::Result<usize> {
-    report.call(part.rt, part.line, &Outcome::Done(told))?;
-    let mut carried = 0usize;
-    for line in part.rest {
-        match read_line(part.rt.alloc(), line.as_str())? {
-            Line::Empty => report.pass(),
-            Line::Other => report.other(part.rt, line.as_str())?,
-            Line::Call(Call::SetUp(_)) => break,
-            Line::Call(call) => {
-                let outcome = workplace.carry_out(call)?;
-                report.call(part.rt, line.as_str(), &outcome)?;
-            }
+) -> anyhow::Result<()> {
+    let heap = report.rt.alloc();
+    match quota {
+        None => begin(report, part, setup::store(heap, store)),
+        Some(quota) => {
+            let store = setup::under_quota(store, quota);
+            begin(report, part, setup::store(heap, store))
         }
-        carried = carried.saturating_add(1);
     }
-    workplace.sum_up(part.rt)?;
-    Ok(carried)
+}
+
+fn begin<W: Workplace>(
+    report: &mut Report<'_>,
+    part: &Part<'_>,
+    begun: Begun<W>,
+) -> anyhow::Result<()> {
+    match begun {
+        Ok((workplace, told)) => {
+            report.call(part.line, &Ok(told))?;
+            work(report, &part.steps, workplace)
+        }
+        Err(reason) => {
+            report.call(part.line, &Err(reason))?;
+            work(report, &part.steps, Nowhere)
+        }
+    }
+}
+
+fn work<W: Workplace>(
+    report: &mut Report<'_>,
+    steps: &[Step<'_>],
+    mut workplace: W,
+) -> anyhow::Result<()> {
+    for &Step { line, call } in steps {
+        let Some(call) = call else {
+            report.no_call(line)?;
+            continue;
+        };
+        let outcome = match workplace.carry_out(call) {
+            Ok(done) => Ok(done),
+            Err(CallError::NotDone(reason)) => Err(reason),
+            Err(CallError::OutOfMemory(error)) => return Err(error.into()),
+        };
+        report.call(line, &outcome)?;
+    }
+    workplace.sum_up(report.rt)
 }

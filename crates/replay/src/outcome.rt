@@ -1,31 +1,39 @@
-use pointer_offset::PointerOffset;
+use crate::byte_range::ByteRange;
+use pointer_offset::{Denial, PointerOffset};
 use shared_memory::fault::{
-    AccessError, BadHandle, SharedMemoryCreateError, SharedMemoryOpenError, StoreError,
+    AccessError, BadHandle, Opened, SharedMemoryCreateError, SharedMemoryOpenError, StoreError,
 };
+use shm_allocator::layout::BadLayout;
 use shm_allocator::{NotHeld, ShmAllocationError};
+use std::alloc::{AllocError, AllocFailed};
 use std::fmt;
-use std::fmt::Debug;
 
 // What came of a call.
-#[derive(Drop)]
-pub enum Outcome {
-    Done(Done),
-    NotDone(NotDone),
-}
+pub type Outcome = Result<Done, NotDone>;
 
 // What was done.
 #[derive(Drop)]
 pub enum Done {
-    Pool { buckets: u32, size: u32 },
-    Bump { payload: u32 },
+    Pool {
+        buckets: u32,
+        size: u32,
+    },
+    Bump {
+        payload: u32,
+    },
     Store,
-    Taken { at: PointerOffset, size: u32 },
-    // `under` chunks of other names lie where the bytes came free.
-    TakenBack { start: u32, size: u32, under: u64 },
+    Taken {
+        at: PointerOffset,
+        size: u32,
+    },
+    TakenBack {
+        bytes: ByteRange,
+        under_another_name: bool,
+    },
     // A bump takes a return and keeps the bytes.
-    Kept { start: u32, size: u32 },
-    Made { handle: u16, address: u64 },
-    Opened { handle: u16, address: u64 },
+    Kept(ByteRange),
+    Made(Opened),
+    Opened(Opened),
     Stands(bool),
     Written,
     Shows(String),
@@ -35,7 +43,7 @@ pub enum Done {
 // Why nothing was done.
 #[derive(Clone, Copy)]
 pub enum NotDone {
-    BadLayout,
+    BadLayout(BadLayout),
     Refused(ShmAllocationError),
     NotHeld(NotHeld),
     NotMade(SharedMemoryCreateError),
@@ -50,12 +58,28 @@ pub enum NotDone {
     UnknownName,
 }
 
-impl fmt::Display for Outcome {
-    fn fmt<W: fmt::Write>(&self, f: &mut fmt::Formatter<W>) -> fmt::Result {
-        match self {
-            Outcome::Done(done) => done.fmt(f),
-            Outcome::NotDone(reason) => reason.fmt(f),
-        }
+// What stops a call. Want of memory is no outcome, and ends the program.
+#[derive(Clone, Copy)]
+pub enum CallError {
+    NotDone(NotDone),
+    OutOfMemory(AllocError),
+}
+
+impl From<NotDone> for CallError {
+    fn from(reason: NotDone) -> CallError {
+        CallError::NotDone(reason)
+    }
+}
+
+impl From<AllocError> for CallError {
+    fn from(error: AllocError) -> CallError {
+        CallError::OutOfMemory(error)
+    }
+}
+
+impl<T: Drop> From<AllocFailed<T>> for CallError {
+    fn from(error: AllocFailed<T>) -> CallError {
+        CallError::OutOfMemory(AllocError::from(error))
     }
 }
 
@@ -68,25 +92,25 @@ impl fmt::Display for Done {
             ),
             Done::Bump { payload } => write!(f, "a bump of {payload} bytes"),
             Done::Store => write!(f, "an empty store"),
-            Done::Taken { at, size } => write_taken(f, *at, *size),
+            Done::Taken { at, size } => write!(
+                f,
+                "given: {size} bytes at value {}, {at:?}",
+                at.as_value()
+            ),
             Done::TakenBack {
-                start,
-                size,
-                under: 0,
-            } => write!(f, "taken back: {size} bytes from {start} on"),
-            Done::TakenBack { start, size, .. } => write!(
+                bytes,
+                under_another_name: false,
+            } => write!(f, "taken back: {bytes}"),
+            Done::TakenBack { bytes, .. } => write!(
                 f,
-                "taken back: {size} bytes from {start} on, where another name's chunk lies: an allocator cannot tell the two apart"
+                "taken back: {bytes}, where another name's chunk lies: an allocator cannot tell the two apart"
             ),
-            Done::Kept { start, size } => write!(
+            Done::Kept(bytes) => write!(
                 f,
-                "accepted: {size} bytes from {start} on, which a bump does not give out again"
+                "accepted: {bytes}, which a bump does not give out again"
             ),
-            Done::Made { handle, address } => write!(f, "made: handle {handle}, address {address}"),
-            Done::Opened { handle, address } => write!(
-                f,
-                "opened: handle {handle}, address {address}"
-            ),
+            Done::Made(made) => write_mapped(f, "made", made),
+            Done::Opened(opened) => write_mapped(f, "opened", opened),
             Done::Stands(true) => write!(f, "done: the segment still stands"),
             Done::Stands(false) => write!(f, "done: the segment ceased"),
             Done::Written => write!(f, "written"),
@@ -99,18 +123,22 @@ impl fmt::Display for Done {
 
 impl fmt::Display for NotDone {
     fn fmt<W: fmt::Write>(&self, f: &mut fmt::Formatter<W>) -> fmt::Result {
-        match *self {
-            NotDone::BadLayout => write!(
+        match self {
+            NotDone::BadLayout(e) => write_denied(
                 f,
-                "denied 1: no size from 1 to 16777216 with a power of two up to 65536"
+                e.number(),
+                "no size from 1 to 16777216 with a power of two up to 65536",
             ),
-            NotDone::Refused(e) => write_refused(f, e),
+            NotDone::Refused(e) => write_named(f, e),
             NotDone::NotHeld(e) => write_denied(f, e.number(), "not held"),
-            NotDone::NotMade(e) => write_not_made(f, e),
-            NotDone::NotOpened(e) => write_not_opened(f, e),
+            NotDone::NotMade(e) => write_named(f, e),
+            NotDone::NotOpened(e) => write_named(f, e),
             NotDone::BadHandle(e) => write_denied(f, e.number(), "bad handle"),
-            NotDone::NoAccess(e) => write_no_access(f, e),
-            NotDone::NoStore(e) => write_no_store(f, e),
+            NotDone::NoAccess(e) => write_named(f, e),
+            NotDone::NoStore(e) => match e.number() {
+                Some(number) => write_denied(f, number, format_args!("{e:?}")),
+                None => write!(f, "not done: {e:?}"),
+            },
             NotDone::Impossible => write!(f, "not done: no such allocator can be set up"),
             NotDone::NothingSetUp => write!(f, "not done: nothing is set up"),
             NotDone::OtherPart => write!(f, "not done: this part of the list has no such call"),
@@ -120,48 +148,30 @@ impl fmt::Display for NotDone {
     }
 }
 
-fn write_denied<W: fmt::Write>(f: &mut fmt::Formatter<W>, number: u8, name: &str) -> fmt::Result {
-    write!(f, "denied {number}: {name}")
-}
-
-fn write_taken<W: fmt::Write>(
+fn write_mapped<W: fmt::Write>(
     f: &mut fmt::Formatter<W>,
-    at: PointerOffset,
-    size: u32,
+    call: &str,
+    segment: &Opened,
 ) -> fmt::Result {
-    let value = at.as_value();
-    write!(f, "given: {size} bytes at value {value}, {at:?}")
+    write!(
+        f,
+        "{call}: handle {}, address {}",
+        segment.handle, segment.address
+    )
 }
 
-fn write_refused<W: fmt::Write>(f: &mut fmt::Formatter<W>, e: ShmAllocationError) -> fmt::Result {
-    let number = e.number();
-    write!(f, "denied {number}: {e:?}")
-}
-
-fn write_not_made<W: fmt::Write>(
+// A denial that its name explains.
+fn write_named<W: fmt::Write, E: Denial + fmt::Debug>(
     f: &mut fmt::Formatter<W>,
-    e: SharedMemoryCreateError,
+    error: &E,
 ) -> fmt::Result {
-    let number = e.number();
-    write!(f, "denied {number}: {e:?}")
+    write_denied(f, error.number(), format_args!("{error:?}"))
 }
 
-fn write_not_opened<W: fmt::Write>(
+fn write_denied<W: fmt::Write>(
     f: &mut fmt::Formatter<W>,
-    e: SharedMemoryOpenError,
+    number: u8,
+    why: impl fmt::Display + Drop,
 ) -> fmt::Result {
-    let number = e.number();
-    write!(f, "denied {number}: {e:?}")
-}
-
-fn write_no_access<W: fmt::Write>(f: &mut fmt::Formatter<W>, e: AccessError) -> fmt::Result {
-    let number = e.number();
-    write!(f, "denied {number}: {e:?}")
-}
-
-fn write_no_store<W: fmt::Write>(f: &mut fmt::Formatter<W>, e: StoreError) -> fmt::Result {
-    match e.number() {
-        Some(number) => write!(f, "denied {number}: {e:?}"),
-        None => write!(f, "not done: {e:?}"),
-    }
+    write!(f, "denied {number}: {why}")
 }

@@ -1,56 +1,52 @@
+use crate::list::Line;
 use crate::outcome::Outcome;
-use std::alloc::Global;
+use std::fmt;
 
 // What is printed of a list, line by line and at its end.
 #[derive(Drop)]
-pub struct Report {
-    line: u64,
+pub struct Report<'a> {
+    pub rt: &'a HostRuntime,
     calls: u64,
     not_done: u64,
-    // The lines that are no call.
-    others: Vec<u64>,
+    // The numbers of the lines that are no call.
+    others: Vec<usize>,
 }
 
-impl Report {
-    pub fn new(heap: Global) -> Report {
+impl<'a> Report<'a> {
+    pub fn new(rt: &'a HostRuntime) -> Report<'a> {
         Report {
-            line: 0,
+            rt,
             calls: 0,
             not_done: 0,
-            others: Vec::new(heap),
+            others: Vec::new(rt.alloc()),
         }
     }
 
-    // A line that says nothing.
-    pub fn pass(&mut self) {
-        self.line = self.line.saturating_add(1);
-    }
-
-    pub fn call(&mut self, rt: &HostRuntime, text: &str, outcome: &Outcome) -> anyhow::Result<()> {
-        self.pass();
+    pub fn call(&mut self, line: Line<'_>, outcome: &Outcome) -> anyhow::Result<()> {
         self.calls = self.calls.saturating_add(1);
-        if let Outcome::NotDone(_) = outcome {
-            self.not_done = self.not_done.saturating_add(1);
+        match outcome {
+            Ok(done) => self.tell(line, done),
+            Err(reason) => {
+                self.not_done = self.not_done.saturating_add(1);
+                self.tell(line, reason)
+            }
         }
-        let line = self.line;
-        println!(rt; "line {line}: {text}\n    {outcome}")?;
+    }
+
+    pub fn no_call(&mut self, line: Line<'_>) -> anyhow::Result<()> {
+        self.others.push(line.number)?;
+        self.tell(line, &"no call: nothing was done")
+    }
+
+    fn tell(&self, line: Line<'_>, what: &impl fmt::Display) -> anyhow::Result<()> {
+        println!(self.rt; "line {}: {}\n    {what}", line.number, line.text)?;
         Ok(())
     }
 
-    pub fn other(&mut self, rt: &HostRuntime, text: &str) -> anyhow::Result<()> {
-        self.pass();
-        let line = self.line;
-        self.others.push(line)?;
-        println!(rt; "line {line}: {text}\n    no call: nothing was done")?;
-        Ok(())
-    }
-
-    pub fn end(&self, rt: &HostRuntime) -> anyhow::Result<()> {
-        let calls = self.calls;
-        let not_done = self.not_done;
-        println!(rt; "{calls} calls, {not_done} of them not done")?;
-        for line in self.others.iter() {
-            println!(rt; "line {line} is no call")?;
+    pub fn end(&self) -> anyhow::Result<()> {
+        println!(self.rt; "{} calls, {} of them not done", self.calls, self.not_done)?;
+        for number in &self.others {
+            println!(self.rt; "line {number} is no call")?;
         }
         Ok(())
     }

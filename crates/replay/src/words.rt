@@ -1,38 +1,46 @@
 use shm_allocator::layout::Layout;
 use std::alloc::{AllocError, Global};
 
+// What a line of the list says.
+#[derive(Clone, Copy)]
+pub enum Said<'a> {
+    Nothing,
+    SetUp(Kind),
+    Call(Call<'a>),
+    // Words that are no call.
+    Other,
+}
+
 // What a part of a list works on.
 #[derive(Clone, Copy)]
 pub enum Kind {
-    Pool {
-        bucket_layout: Layout,
-        payload: u64,
-    },
-    Bump {
-        payload: u64,
-    },
-    Frames {
-        frames: u64,
-        size: u64,
-        quota: Option<u64>,
-    },
-    Span {
-        pages: u64,
-        quota: Option<u64>,
-    },
+    Pool { bucket_layout: Layout, payload: u64 },
+    Bump { payload: u64 },
+    Store { shape: Shape, quota: Option<u64> },
+}
+
+// How a store cuts its memory.
+#[derive(Clone, Copy)]
+pub enum Shape {
+    Frames { count: u64, size: u64 },
+    Span { pages: u64 },
 }
 
 // A call as the list writes it.
 #[derive(Clone, Copy)]
 pub enum Call<'a> {
-    SetUp(Kind),
-    Allocate {
-        name: &'a str,
-        layout: Layout,
-    },
-    Return {
-        name: &'a str,
-    },
+    Allocator(AllocatorCall<'a>),
+    Store(StoreCall<'a>),
+}
+
+#[derive(Clone, Copy)]
+pub enum AllocatorCall<'a> {
+    Allocate { name: &'a str, layout: Layout },
+    Return { name: &'a str },
+}
+
+#[derive(Clone, Copy)]
+pub enum StoreCall<'a> {
     Make {
         name: &'a str,
         size: u64,
@@ -40,195 +48,149 @@ pub enum Call<'a> {
     Open {
         name: &'a str,
     },
-    Withdraw {
-        name: &'a str,
-    },
-    Close {
-        name: &'a str,
-    },
-    Write {
-        name: &'a str,
-        from: u64,
-        text: &'a str,
-    },
-    Read {
-        name: &'a str,
-        from: u64,
-        count: u64,
-    },
     Room {
         size: u64,
     },
+    OnSegment {
+        name: &'a str,
+        call: SegmentCall<'a>,
+    },
 }
 
-// What a line of the list says.
+// A call on the segment whose handle was last answered for a name.
 #[derive(Clone, Copy)]
-pub enum Line<'a> {
-    Empty,
-    Call(Call<'a>),
-    // Words that are no call.
-    Other,
+pub enum SegmentCall<'a> {
+    Withdraw,
+    Close,
+    Write { from: u64, text: &'a str },
+    Read { from: u64, count: u64 },
 }
 
-fn number(word: &str) -> Option<u64> {
-    word.parse::<u64>().ok()
+impl<'a> Said<'a> {
+    // From a '#' on, a line is a comment.
+    pub fn read(heap: Global, line: &'a str) -> Result<Said<'a>, AllocError> {
+        let said = match line.split_once('#') {
+            Some((said, _comment)) => said,
+            None => line,
+        };
+        let words: Vec<&str> = said.split_whitespace().collect(heap)?;
+        Ok(Said::from_words(&words))
+    }
+
+    fn from_words(words: &[&'a str]) -> Said<'a> {
+        if words.is_empty() {
+            return Said::Nothing;
+        }
+        if let Some(kind) = Kind::from_words(words) {
+            return Said::SetUp(kind);
+        }
+        Call::from_words(words).map_or(Said::Other, Said::Call)
+    }
+}
+
+impl Kind {
+    fn from_words(words: &[&str]) -> Option<Kind> {
+        match *words {
+            ["pool", size, align, payload] => Some(Kind::Pool {
+                bucket_layout: layout(size, align)?,
+                payload: number(payload)?,
+            }),
+            ["bump", payload] => Some(Kind::Bump {
+                payload: number(payload)?,
+            }),
+            [ref shape @ .., "quota", quota] => Some(Kind::Store {
+                shape: Shape::from_words(shape)?,
+                quota: Some(number(quota)?),
+            }),
+            _ => Some(Kind::Store {
+                shape: Shape::from_words(words)?,
+                quota: None,
+            }),
+        }
+    }
+}
+
+impl Shape {
+    fn from_words(words: &[&str]) -> Option<Shape> {
+        match *words {
+            ["frames", count, size] => Some(Shape::Frames {
+                count: number(count)?,
+                size: number(size)?,
+            }),
+            ["span", pages] => Some(Shape::Span {
+                pages: number(pages)?,
+            }),
+            _ => None,
+        }
+    }
+}
+
+impl<'a> Call<'a> {
+    fn from_words(words: &[&'a str]) -> Option<Call<'a>> {
+        AllocatorCall::from_words(words)
+            .map(Call::Allocator)
+            .or_else(|| StoreCall::from_words(words).map(Call::Store))
+    }
+}
+
+impl<'a> AllocatorCall<'a> {
+    fn from_words(words: &[&'a str]) -> Option<AllocatorCall<'a>> {
+        match *words {
+            ["allocate", name, size, align] => Some(AllocatorCall::Allocate {
+                name,
+                layout: layout(size, align)?,
+            }),
+            ["return", name] => Some(AllocatorCall::Return { name }),
+            _ => None,
+        }
+    }
+}
+
+impl<'a> StoreCall<'a> {
+    fn from_words(words: &[&'a str]) -> Option<StoreCall<'a>> {
+        match *words {
+            ["make", name, size] => Some(StoreCall::Make {
+                name,
+                size: number(size)?,
+            }),
+            ["open", name] => Some(StoreCall::Open { name }),
+            ["room", size] => Some(StoreCall::Room {
+                size: number(size)?,
+            }),
+            [verb, name, ref rest @ ..] => {
+                let call = SegmentCall::from_words(verb, rest)?;
+                Some(StoreCall::OnSegment { name, call })
+            }
+            _ => None,
+        }
+    }
+}
+
+impl<'a> SegmentCall<'a> {
+    fn from_words(verb: &str, words: &[&'a str]) -> Option<SegmentCall<'a>> {
+        match (verb, words) {
+            ("withdraw", []) => Some(SegmentCall::Withdraw),
+            ("close", []) => Some(SegmentCall::Close),
+            ("write", [from, text]) => Some(SegmentCall::Write {
+                from: number(from)?,
+                text: *text,
+            }),
+            ("read", [from, count]) => Some(SegmentCall::Read {
+                from: number(from)?,
+                count: number(count)?,
+            }),
+            _ => None,
+        }
+    }
 }
 
 fn layout(size: &str, align: &str) -> Option<Layout> {
-    let Some(size) = number(size) else {
-        return None;
-    };
-    let Some(align) = number(align) else {
-        return None;
-    };
-    Some(Layout { size, align })
+    Some(Layout {
+        size: number(size)?,
+        align: number(align)?,
+    })
 }
 
-// The calls that set something up.
-fn read_kind(words: &[&str]) -> Option<Kind> {
-    match words {
-        ["pool", size, align, payload] => {
-            let bucket_layout = layout(size, align)?;
-            let payload = number(payload)?;
-            Some(Kind::Pool {
-                bucket_layout,
-                payload,
-            })
-        }
-        ["bump", payload] => {
-            let payload = number(payload)?;
-            Some(Kind::Bump { payload })
-        }
-        ["frames", rest @ ..] => read_frames(rest),
-        ["span", rest @ ..] => read_span(rest),
-        _ => None,
-    }
-}
-
-fn read_frames(words: &[&str]) -> Option<Kind> {
-    match words {
-        [frames, size] => {
-            let frames = number(frames)?;
-            let size = number(size)?;
-            Some(Kind::Frames {
-                frames,
-                size,
-                quota: None,
-            })
-        }
-        [frames, size, "quota", quota] => {
-            let frames = number(frames)?;
-            let size = number(size)?;
-            let quota = number(quota)?;
-            Some(Kind::Frames {
-                frames,
-                size,
-                quota: Some(quota),
-            })
-        }
-        _ => None,
-    }
-}
-
-fn read_span(words: &[&str]) -> Option<Kind> {
-    match words {
-        [pages] => {
-            let pages = number(pages)?;
-            Some(Kind::Span { pages, quota: None })
-        }
-        [pages, "quota", quota] => {
-            let pages = number(pages)?;
-            let quota = number(quota)?;
-            Some(Kind::Span {
-                pages,
-                quota: Some(quota),
-            })
-        }
-        _ => None,
-    }
-}
-
-// The calls of an allocator.
-fn read_request<'a>(words: &[&'a str]) -> Option<Call<'a>> {
-    match words {
-        ["allocate", name, size, align] => {
-            let layout = layout(size, align)?;
-            Some(Call::Allocate {
-                name: *name,
-                layout,
-            })
-        }
-        ["return", name] => Some(Call::Return { name: *name }),
-        _ => None,
-    }
-}
-
-// The calls of a store that name a segment and nothing else.
-fn read_segment<'a>(words: &[&'a str]) -> Option<Call<'a>> {
-    match words {
-        ["open", name] => Some(Call::Open { name: *name }),
-        ["withdraw", name] => Some(Call::Withdraw { name: *name }),
-        ["close", name] => Some(Call::Close { name: *name }),
-        _ => None,
-    }
-}
-
-// The calls of a store that have numbers.
-fn read_access<'a>(words: &[&'a str]) -> Option<Call<'a>> {
-    match words {
-        ["make", name, size] => {
-            let size = number(size)?;
-            Some(Call::Make { name: *name, size })
-        }
-        ["write", name, from, text] => {
-            let from = number(from)?;
-            Some(Call::Write {
-                name: *name,
-                from,
-                text: *text,
-            })
-        }
-        ["read", name, from, count] => {
-            let from = number(from)?;
-            let count = number(count)?;
-            Some(Call::Read {
-                name: *name,
-                from,
-                count,
-            })
-        }
-        ["room", size] => {
-            let size = number(size)?;
-            Some(Call::Room { size })
-        }
-        _ => None,
-    }
-}
-
-fn read_call<'a>(words: &[&'a str]) -> Option<Call<'a>> {
-    if let Some(kind) = read_kind(words) {
-        return Some(Call::SetUp(kind));
-    }
-    if let Some(call) = read_request(words) {
-        return Some(call);
-    }
-    if let Some(call) = read_segment(words) {
-        return Some(call);
-    }
-    read_access(words)
-}
-
-// What a line says; from a '#' on it is a comment.
-pub fn read_line(heap: Global, line: &str) -> Result<Line<'_>, AllocError> {
-    let Some(said) = line.split('#').next() else {
-        return Ok(Line::Empty);
-    };
-    let words: Vec<&str> = said.split_whitespace().collect(heap)?;
-    if words.is_empty() {
-        return Ok(Line::Empty);
-    }
-    match read_call(words.as_slice()) {
-        Some(call) => Ok(Line::Call(call)),
-        None => Ok(Line::Other),
-    }
+fn number(word: &str) -> Option<u64> {
+    word.parse().ok()
 }

@@ -6,9 +6,11 @@ ghost use Rattle.resizable_shared_memory.specs.declared.fault.ResizableShmAlloca
 ghost use Rattle.resizable_shared_memory.specs.declared.fault.ResizableShmCreateError.TheVariants as creating;
 ghost use Rattle.std.specs.Prelude.{◌≡◌};
 
+use pointer_offset::Denial;
 use shared_memory::fault::{AccessError, SharedMemoryCreateError};
 use shared_memory::name::BadName;
 use shm_allocator::ShmAllocationError;
+use shm_allocator::layout::BadLayout;
 
 // Why a memory gave no chunk.
 #[derive(Clone, Copy, PartialEq, Eq, Debug)]
@@ -22,10 +24,10 @@ pub enum ResizableShmAllocationError {
     SharedMemoryCreateError(SharedMemoryCreateError),
 }
 
-impl ResizableShmAllocationError {
-    pub fn number(&self) -> u8
-        ensures { result ≡ allocation_number self.now }
-    {
+impl Denial for ResizableShmAllocationError {
+    ghost number_of = { allocation_number };
+
+    fn number(&self) -> u8 {
         match self {
             ResizableShmAllocationError::BadLayout => 1,
             ResizableShmAllocationError::LedgerFull => 12,
@@ -34,6 +36,14 @@ impl ResizableShmAllocationError {
             ResizableShmAllocationError::ShmAllocationError(error) => error.number(),
             ResizableShmAllocationError::SharedMemoryCreateError(error) => error.number(),
         }
+    }
+}
+
+impl From<BadLayout> for ResizableShmAllocationError {
+    ghost from_gives = { λ _ upper. upper ≡ allocating.BadLayout };
+
+    fn from(_error: BadLayout) -> ResizableShmAllocationError {
+        ResizableShmAllocationError::BadLayout
     }
 }
 
@@ -61,10 +71,10 @@ pub enum ResizableShmCreateError {
     SharedMemoryCreateError(SharedMemoryCreateError),
 }
 
-impl ResizableShmCreateError {
-    pub fn number(&self) -> u8
-        ensures { result ≡ creation_number self.now }
-    {
+impl Denial for ResizableShmCreateError {
+    ghost number_of = { creation_number };
+
+    fn number(&self) -> u8 {
         match self {
             ResizableShmCreateError::BadName => 2,
             ResizableShmCreateError::BadLayout => 1,
@@ -78,6 +88,14 @@ impl From<BadName> for ResizableShmCreateError {
 
     fn from(_error: BadName) -> ResizableShmCreateError {
         ResizableShmCreateError::BadName
+    }
+}
+
+impl From<BadLayout> for ResizableShmCreateError {
+    ghost from_gives = { λ _ upper. upper ≡ creating.BadLayout };
+
+    fn from(_error: BadLayout) -> ResizableShmCreateError {
+        ResizableShmCreateError::BadLayout
     }
 }
 
@@ -97,10 +115,10 @@ pub enum ChunkWriteError {
     AccessError(AccessError),
 }
 
-impl ChunkWriteError {
-    pub fn number(&self) -> u8
-        ensures { result ≡ write_number self.now }
-    {
+impl Denial for ChunkWriteError {
+    ghost number_of = { write_number };
+
+    fn number(&self) -> u8 {
         match self {
             ChunkWriteError::NotHeld => 11,
             ChunkWriteError::OutsideChunk => 4,
@@ -121,10 +139,10 @@ impl From<AccessError> for ChunkWriteError {
 #[derive(Clone, Copy, PartialEq, Eq, Debug)]
 pub struct NotMapped;
 
-impl NotMapped {
-    pub fn number(&self) -> u8
-        ensures { result ≡ not_mapped_number self.now }
-    {
+impl Denial for NotMapped {
+    ghost number_of = { not_mapped_number };
+
+    fn number(&self) -> u8 {
         14
     }
 }

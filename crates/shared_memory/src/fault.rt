@@ -5,6 +5,7 @@ ghost use Rattle.shared_memory.specs.Meaning.{create_number, open_number, access
 ghost use Rattle.shared_memory.specs.declared.fault.StoreError.TheVariants.{OutOfMemory};
 ghost use Rattle.std.specs.Prelude.{◌≡◌};
 
+use pointer_offset::Denial;
 use std::alloc::AllocError;
 
 // Why a segment was not made.
@@ -17,10 +18,10 @@ pub enum SharedMemoryCreateError {
     InternalError,
 }
 
-impl SharedMemoryCreateError {
-    pub fn number(&self) -> u8
-        ensures { result ≡ create_number self.now }
-    {
+impl Denial for SharedMemoryCreateError {
+    ghost number_of = { create_number };
+
+    fn number(&self) -> u8 {
         match self {
             SharedMemoryCreateError::BadName => 2,
             SharedMemoryCreateError::SizeIsZero => 25,
@@ -39,10 +40,10 @@ pub enum SharedMemoryOpenError {
     InternalError,
 }
 
-impl SharedMemoryOpenError {
-    pub fn number(&self) -> u8
-        ensures { result ≡ open_number self.now }
-    {
+impl Denial for SharedMemoryOpenError {
+    ghost number_of = { open_number };
+
+    fn number(&self) -> u8 {
         match self {
             SharedMemoryOpenError::BadName => 2,
             SharedMemoryOpenError::DoesNotExist => 27,
@@ -55,10 +56,10 @@ impl SharedMemoryOpenError {
 #[derive(Clone, Copy, PartialEq, Eq, Debug)]
 pub struct BadHandle;
 
-impl BadHandle {
-    pub fn number(&self) -> u8
-        ensures { result ≡ handle_number self.now }
-    {
+impl Denial for BadHandle {
+    ghost number_of = { handle_number };
+
+    fn number(&self) -> u8 {
         17
     }
 }
@@ -70,10 +71,10 @@ pub enum AccessError {
     OutsidePayload,
 }
 
-impl AccessError {
-    pub fn number(&self) -> u8
-        ensures { result ≡ access_number self.now }
-    {
+impl Denial for AccessError {
+    ghost number_of = { access_number };
+
+    fn number(&self) -> u8 {
         match self {
             AccessError::BadHandle => 17,
             AccessError::OutsidePayload => 5,
@@ -115,10 +116,10 @@ pub struct NotEmpty<S> {
     pub store: S,
 }
 
-impl<S> NotEmpty<S> {
-    pub fn number(&self) -> u8
-        ensures { result ≡ not_empty_number self.now }
-    {
+impl<S> Denial for NotEmpty<S> {
+    ghost number_of = { not_empty_number };
+
+    fn number(&self) -> u8 {
         6
     }
 }

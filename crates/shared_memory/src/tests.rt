@@ -1,3 +1,4 @@
+use pointer_offset::Denial;
 use crate::SegmentStore;
 use crate::fault::{AccessError, Opened, SharedMemoryCreateError};
 use crate::frame_store::FrameStore;

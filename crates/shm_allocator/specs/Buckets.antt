@@ -1,11 +1,11 @@
 -- The free buckets as a list, the next one to give out first.
-use Rattle.std.specs.Prelude.{◌≡◌, ℕ, Bool, true, false, List, [], ◌∷◌, reverse, take, slice_index_or, slice_set}
+use Rattle.std.specs.Prelude.{◌≡◌, ℕ, Bool, true, false, List, [], ◌∷◌, reverse, slice_index_or, slice_set}
 use Rattle.std.specs.List.{range_with_len}
 use Rattle.shm_allocator.specs.declared.buckets.Buckets.{Buckets}
 
--- The free buckets, from the front: the array has the front last.
+-- The free buckets, from the front: they are kept with the front last.
 abbrev pub listed : Buckets → List ℕ
-listed f = reverse (take f.depth f.free)
+listed f = reverse f.free.items
 
 -- Whether bucket i is given out.
 abbrev pub flag : Buckets → ℕ → Bool

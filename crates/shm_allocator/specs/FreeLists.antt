@@ -1,10 +1,11 @@
 -- The list of the free buckets, as it is popped, pushed and made.
-use Rattle.std.specs.Prelude.{◌≡◌, ℕ, zero, suc, ◌+◌, ◌-◌, ◌<◌, ◌≤◌, Bool, true, false, ◌≢◌, List, [], ◌∷◌, reverse, length, get_or, take, replicate, slice_index, slice_index_or, slice_set, refl}
-use Rattle.std.proofs.Common.{sym, ap, subst, ◌∙◌, ⊎_elim, le_of_suc-le-suc, not-suc-le-zero, arith}
+use Rattle.std.specs.Prelude.{◌≡◌, ℕ, zero, suc, ◌+◌, ◌-◌, ◌<◌, ◌≤◌, Bool, true, false, ◌≢◌, List, [], ◌∷◌, ◌++◌, reverse, length, get_or, replicate, slice_index, slice_index_or, slice_set, refl}
+use Rattle.std.proofs.Common.{sym, ap, ap₂, subst, ◌∙◌, ⊎_elim, le_of_suc-le-suc, not-suc-le-zero, length-append, arith}
 use Rattle.std.specs.List.{range_with_len}
-use Rattle.std.proofs.lemmas.List.{get_or-set_same, get_or-set_other, take_more, reverse-append, length-set, length-take-le, length-reverse, get_or-reverse, get_or-take, get_or_default, same_lists}
+use Rattle.std.proofs.Math.Seq.{get_or-append_seam}
+use Rattle.std.proofs.lemmas.List.{get_or-set_same, get_or-set_other, get_or_append_left, reverse-append, reverse-reverse, length-reverse, get_or-reverse}
 use Rattle.std.proofs.lemmas.List.FromFn.{length-range_with_len, get_or-range_with_len}
-use Rattle.std.proofs.lemmas.Bool.{cases_eq, cases_lt, both_ways}
+use Rattle.std.proofs.lemmas.Bool.{cases_lt, both_ways}
 use Rattle.shm_allocator.specs.Flags.{trues}
 use Rattle.shm_allocator.specs.declared.buckets.Buckets.{Buckets}
 use Rattle.shm_allocator.specs.Buckets.{listed, flag, empty}
@@ -39,111 +40,111 @@ flag_none zero i = refl
 flag_none (suc n) zero = refl
 flag_none (suc n) (suc i) = flag_none n i
 
--- the last of the first n + 1 is the first of them in reverse
-pub list_top : (xs : List ℕ) (n m : ℕ) → n < length xs → m ≡ n + 1 → reverse (take m xs) ≡ slice_index xs n ∷ reverse (take n xs)
-list_top xs n m h e = ap (λ (x : ℕ). reverse (take x xs)) e ∙ ap reverse (take_more xs n 0 h) ∙ reverse-append (take n xs) (slice_index xs n ∷ [])
+-- ys is xs with i behind it, which is the front of the free buckets
+module _ (xs ys : List ℕ) (i : ℕ) (e : ys ≡ xs ++ i ∷ []) where
+  pub one_more : length ys ≡ length xs + 1
+  one_more = ap length e ∙ length-append xs (i ∷ [])
 
-module _ (f : Buckets) (some : 0 < f.depth) where
-  abbrev pub top : ℕ
-  top = slice_index f.free (f.depth - 1)
+  pub at_front : slice_index ys (length xs) ≡ i
+  at_front = ap (λ (l : List ℕ). slice_index l (length xs)) e ∙ get_or-append_seam xs i [] 0
 
-  pub top_free : get_or f.taken top false ≡ false
-  top_free = f.untaken (f.depth - 1) (omega arith)
+  pub at_other : (j : ℕ) → j < length xs → slice_index ys j ≡ slice_index xs j
+  at_other j h = ap (λ (l : List ℕ). slice_index l j) e ∙ get_or_append_left xs (i ∷ []) 0 j h
 
-  pub top_inside : top < f.count
-  top_inside = f.inside (f.depth - 1) (omega arith)
+  pub front_listed : reverse ys ≡ i ∷ reverse xs
+  front_listed = ap reverse e ∙ reverse-append xs (i ∷ [])
 
-  pub pop_untaken : (j : ℕ) → j < f.depth - 1 → slice_index_or (slice_set f.taken top true) (slice_index f.free j) false ≡ false
-  pop_untaken j h = get_or-set_other f.taken top (slice_index f.free j) true false (f.apart j (f.depth - 1) h (omega arith)) ∙ f.untaken j (omega arith)
+  -- what holds of i, and of each of xs, holds of each of ys
+  pub each_of_both : (P : ℕ → Type 0) → P i → ((j : ℕ) → j < length xs → P (slice_index xs j)) → (j : ℕ) → j < length ys → P (slice_index ys j)
+  each_of_both P here below j h =
+      ⊎_elim
+      (λ l. subst P (sym (at_other j l)) (below j l))
+      (λ l. let q : length xs ≡ j = omega (arith, one_more) in subst P (sym (ap (λ (k : ℕ). slice_index ys k) (sym q) ∙ at_front)) here)
+      (cases_lt j (length xs))
 
-  pub pop_whole : f.depth - 1 + trues (slice_set f.taken top true) ≡ f.count
-  pop_whole = let i = top_inside in let t = trues_set f.taken top (omega arith) top_free in omega arith
+-- The front i of the free buckets is given out, and xs are left.
+module _ (f : Buckets) (xs : List ℕ) (i : ℕ) (e : f.free.items ≡ xs ++ i ∷ []) where
+  within : (j : ℕ) → j ≤ length xs → j < length f.free.items
+  within j h = omega (arith, one_more xs f.free.items i e)
 
-module _ (f : Buckets) (i : ℕ) (low : i < f.count) (is : get_or f.taken i false ≡ true) where
-  pub push_room : f.depth < f.count
+  front : slice_index f.free.items (length xs) ≡ i
+  front = at_front xs f.free.items i e
+
+  other : (j : ℕ) → j < length xs → slice_index f.free.items j ≡ slice_index xs j
+  other = at_other xs f.free.items i e
+
+  pub pop_low : i < f.count
+  pop_low = subst (λ (x : ℕ). x < f.count) front (f.inside (length xs) (within (length xs) (omega arith)))
+
+  pub pop_free : slice_index_or f.taken i false ≡ false
+  pop_free = subst (λ (x : ℕ). slice_index_or f.taken x false ≡ false) front (f.untaken (length xs) (within (length xs) (omega arith)))
+
+  pub pop_inside : (j : ℕ) → j < length xs → slice_index xs j < f.count
+  pop_inside j h = subst (λ (x : ℕ). x < f.count) (other j h) (f.inside j (within j (omega arith)))
+
+  pub pop_untaken : (j : ℕ) → j < length xs → slice_index_or (slice_set f.taken i true) (slice_index xs j) false ≡ false
+  pop_untaken j h =
+      get_or-set_other f.taken i (slice_index xs j) true false (λ q. f.apart j (length xs) h (within (length xs) (omega arith)) (other j h ∙ q ∙ sym front))
+      ∙ subst (λ (x : ℕ). slice_index_or f.taken x false ≡ false) (other j h) (f.untaken j (within j (omega arith)))
+
+  pub pop_apart : (j k : ℕ) → j < k → k < length xs → slice_index xs j ≢ slice_index xs k
+  pop_apart j k l h q = f.apart j k l (within k (omega arith)) (other j (omega arith) ∙ q ∙ sym (other k h))
+
+  pub pop_whole : length xs + trues (slice_set f.taken i true) ≡ f.count
+  pop_whole = let l = pop_low in let t = trues_set f.taken i (omega arith) pop_free in omega (arith, one_more xs f.free.items i e)
+
+-- The taken bucket i comes back, and ys are free.
+module _ (f : Buckets) (i : ℕ) (low : i < f.count) (is : slice_index_or f.taken i false ≡ true) where
+  pub push_room : length f.free.items < f.count
   push_room = let t = trues_clear f.taken i is in omega arith
 
-  pub push_same : get_or (slice_set f.free f.depth i) f.depth 0 ≡ i
-  push_same = let r = push_room in get_or-set_same f.free f.depth i 0 (omega arith)
+  cleared : (k : ℕ) → slice_index_or f.taken k false ≡ false → slice_index_or (slice_set f.taken i false) k false ≡ false
+  cleared k h = get_or-set_other f.taken i k false false (λ q. both_ways (slice_index_or f.taken i false) (ap (λ (x : ℕ). get_or f.taken x false) (sym q) ∙ h) is) ∙ h
 
-  pub push_other : (j : ℕ) → j < f.depth → slice_index (slice_set f.free f.depth i) j ≡ slice_index f.free j
-  push_other j h = get_or-set_other f.free f.depth j i 0 (omega arith)
+  module _ (ys : List ℕ) (e : ys ≡ f.free.items ++ i ∷ []) where
+    pub push_untaken : (j : ℕ) → j < length ys → slice_index_or (slice_set f.taken i false) (slice_index ys j) false ≡ false
+    push_untaken = each_of_both f.free.items ys i e (λ k. slice_index_or (slice_set f.taken i false) k false ≡ false) (get_or-set_same f.taken i false false (omega arith)) (λ j h. cleared (slice_index f.free.items j) (f.untaken j h))
 
-  -- what holds of i, and of each that was free, holds of each that is free now
-  pub push_each : (P : ℕ → Type 0) → P i → ((j : ℕ) → j < f.depth → P (slice_index f.free j)) → (j : ℕ) → j < f.depth + 1 → P (slice_index (slice_set f.free f.depth i) j)
-  push_each P here below j h =
-      ⊎_elim
-      (λ l. subst P (sym (push_other j l)) (below j l))
-      (λ l. let e : f.depth ≡ j = omega arith in subst P (sym (ap (get_or' (slice_set f.free f.depth i)) (sym e) ∙ push_same)) here)
-      (cases_lt j f.depth)
-    where
-      get_or' : List ℕ → ℕ → ℕ
-      get_or' xs k = slice_index xs k
+    pub push_apart : (j k : ℕ) → j < k → k < length ys → slice_index ys j ≢ slice_index ys k
+    push_apart j k l h q =
+        ⊎_elim
+        (λ u. f.apart j k l u (sym (at_other f.free.items ys i e j (omega arith)) ∙ q ∙ at_other f.free.items ys i e k u))
+        (λ u.
+        let n : length f.free.items ≡ k = omega (arith, one_more f.free.items ys i e) in
+        let z : slice_index f.free.items j ≡ i = sym (at_other f.free.items ys i e j (omega arith)) ∙ q ∙ ap (λ (x : ℕ). slice_index ys x) (sym n) ∙ at_front f.free.items ys i e in
+        both_ways (slice_index_or f.taken i false) (ap (λ (x : ℕ). get_or f.taken x false) (sym z) ∙ f.untaken j (omega arith)) is)
+        (cases_lt k (length f.free.items))
 
-  pub push_clear : (e : ℕ) → slice_index_or f.taken e false ≡ false → slice_index_or (slice_set f.taken i false) e false ≡ false
-  push_clear e h = get_or-set_other f.taken i e false false (λ q. both_ways (slice_index_or f.taken i false) (ap (λ (x : ℕ). get_or f.taken x false) (sym q) ∙ h) is) ∙ h
+    pub push_whole : length ys + trues (slice_set f.taken i false) ≡ f.count
+    push_whole = let t = trues_clear f.taken i is in omega (arith, one_more f.free.items ys i e)
 
-  pub push_untaken : (j : ℕ) → j < f.depth + 1 → slice_index_or (slice_set f.taken i false) (slice_index (slice_set f.free f.depth i) j) false ≡ false
-  push_untaken = push_each (λ e. slice_index_or (slice_set f.taken i false) e false ≡ false) (get_or-set_same f.taken i false false (omega arith)) (λ j h. push_clear (slice_index f.free j) (f.untaken j h))
+-- what counts down to k counts down to 0 where k is 0
+pub down_all : (n k : ℕ) → k ≤ 0 → (xs : List ℕ) → reverse xs ≡ range_with_len k (n - k) → reverse xs ≡ range_with_len 0 n
+down_all n k h xs e = let z : k ≡ 0 = omega arith in let m : n - k ≡ n = omega arith in e ∙ ap₂ range_with_len z m
 
-  pub push_apart : (j k : ℕ) → j < k → k < f.depth + 1 → slice_index (slice_set f.free f.depth i) j ≢ slice_index (slice_set f.free f.depth i) k
-  push_apart j k l h e =
-      ⊎_elim
-      (λ u. f.apart j k l u (sym (push_other j (omega arith)) ∙ e ∙ push_other k u))
-      (λ u.
-      let q : f.depth ≡ k = omega arith in
-      let z : get_or f.free j 0 ≡ i = sym (push_other j (omega arith)) ∙ e ∙ ap (λ (x : ℕ). slice_index (slice_set f.free f.depth i) x) (sym q) ∙ push_same in
-      both_ways (slice_index_or f.taken i false) (ap (λ (x : ℕ). get_or f.taken x false) (sym z) ∙ f.untaken j (omega arith)) is)
-      (cases_lt k f.depth)
+-- a list that counts down to 0
+module _ (xs : List ℕ) (n : ℕ) (e : reverse xs ≡ range_with_len 0 n) where
+  pub down_length : length xs ≡ n
+  down_length = sym (length-reverse xs) ∙ ap length e ∙ length-range_with_len 0 n
 
-  pub push_whole : f.depth + 1 + trues (slice_set f.taken i false) ≡ f.count
-  push_whole = let t = trues_clear f.taken i is in omega arith
+  pub down_at : (j : ℕ) → j < n → slice_index xs j ≡ n - 1 - j
+  down_at j h =
+      let w = length-range_with_len 0 n in
+      let i : ℕ = length (range_with_len 0 n) - 1 - j in
+      let q : 0 + i ≡ n - 1 - j = omega arith in
+      ap (λ (l : List ℕ). slice_index l j) (sym (reverse-reverse xs) ∙ ap reverse e) ∙ get_or-reverse (range_with_len 0 n) j 0 (omega arith)
+      ∙ get_or-range_with_len 0 n i 0 (omega arith) ∙ q
 
-  pub push_list : reverse (take (f.depth + 1) (slice_set f.free f.depth i)) ≡ i ∷ listed f
-  push_list =
-      let r = push_room in
-      let n = length-set f.free f.depth i in
-      list_top (slice_set f.free f.depth i) f.depth (f.depth + 1) (omega arith) refl
-      ∙ ap (λ (x : ℕ). x ∷ reverse (take f.depth (slice_set f.free f.depth i))) push_same
-      ∙ ap (λ (x : List ℕ). i ∷ reverse x) (take_set_same f.free f.depth i)
-    where
-      take_set_same : (xs : List ℕ) (n v : ℕ) → take n (slice_set xs n v) ≡ take n xs
-      take_set_same [] zero v = refl
-      take_set_same [] (suc n) v = refl
-      take_set_same (x ∷ xs) zero v = refl
-      take_set_same (x ∷ xs) (suc n) v = ap (λ (y : List ℕ). x ∷ y) (take_set_same xs n v)
-
--- a list that counts down is the numbers from 0 on in reverse
-pub counted_down : (xs : List ℕ) (n : ℕ) → n ≤ length xs → ((k : ℕ) → k < n → slice_index xs k ≡ n - 1 - k) → reverse (take n xs) ≡ range_with_len 0 n
-counted_down xs n h at =
-    same_lists (reverse (take n xs)) (range_with_len 0 n) (long ∙ sym (length-range_with_len 0 n)) each
+-- a pool that has a free bucket has a bucket
+pub some_free : (f : Buckets) → empty (listed f) ≡ false → 0 < f.count
+some_free f e = go f.free.items refl
   where
-    long : length (reverse (take n xs)) ≡ n
-    long = length-reverse (take n xs) ∙ length-take-le n xs h
-
-    each : (k d : ℕ) → k < length (reverse (take n xs)) → slice_index_or (reverse (take n xs)) k d ≡ slice_index_or (range_with_len 0 n) k d
-    each k d l =
-        let whole = length-take-le n xs h in
-        let less : k < n = omega (arith, long) in
-        let i : ℕ = length (take n xs) - 1 - k in
-        let inside : i < n = omega arith in
-        let down : n - 1 - i ≡ 0 + k = omega arith in
-        get_or-reverse (take n xs) k d (omega arith) ∙ get_or-take n xs i d inside ∙ get_or_default xs i d 0 (omega arith)
-        ∙ at i inside ∙ down ∙ sym (get_or-range_with_len 0 n k d less)
-
--- the list is empty where its depth is 0
-pub depth_zero : (f : Buckets) → f.depth ≡ 0 → empty (listed f) ≡ true
-depth_zero f e = ap (λ (n : ℕ). empty (reverse (take n f.free))) e
-
-pub depth_some : (f : Buckets) → 0 < f.depth → empty (listed f) ≡ false
-depth_some f h = ap empty (list_top f.free (f.depth - 1) f.depth (omega arith) (omega arith))
-
-pub some_depth : (f : Buckets) → empty (listed f) ≡ false → 0 < f.depth
-some_depth f e = ⊎_elim (λ z. absurd (both_ways (empty (listed f)) e (depth_zero f z))) (λ n. omega arith) (cases_eq f.depth 0)
+    go : (xs : List ℕ) → f.free.items ≡ xs → 0 < f.count
+    go [] q = absurd (both_ways (empty (listed f)) e (ap (λ (l : List ℕ). empty (reverse l)) q))
+    go (x ∷ xs) q = let l : length f.free.items ≡ suc (length xs) = ap length q in let w = f.whole in omega arith
 
 -- the first of the list is free
 pub front_is : (f : Buckets) (i : ℕ) (r : List ℕ) → listed f ≡ i ∷ r → (i < f.count) × (flag f i ≡ false)
 front_is f i r e =
-    let d : 0 < f.depth = some_depth f (ap empty e) in
-    let q : get_or f.free (f.depth - 1) 0 ≡ i = let t = list_top f.free (f.depth - 1) f.depth (omega arith) (omega arith) in cc in
-    (subst (λ (x : ℕ). x < f.count) q (top_inside f d), subst (λ (x : ℕ). slice_index_or f.taken x false ≡ false) q (top_free f d))
+    let q : f.free.items ≡ reverse r ++ i ∷ [] = sym (reverse-reverse f.free.items) ∙ ap reverse e ∙ reverse-append (i ∷ []) r in
+    (pop_low f (reverse r) i q, pop_free f (reverse r) i q)

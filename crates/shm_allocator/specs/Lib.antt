@@ -1,4 +1,5 @@
 pub mod Numbers
+pub mod Layouts
 pub mod Sizes
 pub mod Flags
 pub mod Meaning

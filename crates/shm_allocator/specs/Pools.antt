@@ -20,7 +20,7 @@ use Rattle.shm_allocator.specs.Rounding.{round_multiple, round_low, round_exact}
 use Rattle.shm_allocator.specs.Powers.{power_pos, power_divides}
 use Rattle.shm_allocator.specs.Growing.{raise_low}
 use Rattle.shm_allocator.specs.Answering.{span_in, span_out, passed_both, refusal_numbers, start_not_refused, start_is, grows_unless_static}
-use Rattle.shm_allocator.specs.FreeLists.{front_is, some_depth}
+use Rattle.shm_allocator.specs.FreeLists.{front_is, some_free}
 
 size_pos : (l : ValidLayout) → 0 < l.size
 size_pos l = l.sized.0
@@ -202,7 +202,7 @@ hint_some a way h = subst (λ (g : Bool). 1 ≤ cond (g && empty (listed a.bucke
   where
     go : (t : Bool) → empty (listed a.buckets) ≡ t → 1 ≤ cond t (raise way (a.buckets.count + 1)) a.buckets.count
     go true e = let r = raise_low way (a.buckets.count + 1) in omega arith
-    go false e = let d = some_depth a.buckets e in omega arith
+    go false e = some_free a.buckets e
 
 -- a pool whose buckets are large enough answers from its free ones
 pub served : (b : PoolAllocator) (l : ValidLayout) (free : List ℕ) → l.align ≤ b.layout.align → l.size ≤ b.layout.size → listed b.buckets ≡ free → pool_answer b l ≡ front_answer b.layout.size free

@@ -35,3 +35,16 @@ round_exact x a h e =
     let top : rounded_up x a ≤ x / a * a = round_within x a (x / a) h (omega arith) in
     let low : x ≤ rounded_up x a = round_low x a h in
     omega arith
+
+-- the only multiple that is x or more, and less than one step above it
+pub round_only : (x a r : ℕ) → 0 < a → x ≤ r → r < x + a → r % a ≡ 0 → r ≡ rounded_up x a
+unfolding rounded_up
+round_only x a r h low high e =
+    let q : ℕ = (x + (a - 1)) / a in
+    let d : r / a * a + r % a ≡ r = div-add-mod' r a in
+    let l : x ≤ rounded_up x a = round_low x a h in
+    let s : (q + 1) * a ≡ q * a + 1 * a = add-mul q 1 a in
+    let k : r / a < q + 1 = (div-lt_iff_lt-mul h).1 (omega arith) in
+    let most : r / a * a ≤ q * a = mul-le-mul_right a (omega arith) in
+    let least : rounded_up x a ≤ r / a * a = round_within x a (r / a) h (omega arith) in
+    omega arith

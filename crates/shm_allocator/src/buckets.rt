@@ -1,20 +1,22 @@
-ghost use Rattle.std.specs.Prelude.{◌≡◌, ℕ, ◌+◌, ◌<◌, ◌≤◌, true, false, length, ◌≢◌, slice_index, slice_index_or};
+ghost use Rattle.std.specs.Prelude.{◌≡◌, ℕ, ◌+◌, ◌<◌, ◌≤◌, false, length, ◌≢◌, slice_index, slice_index_or};
+ghost use Rattle.arrayvec.specs.ArrayVec.{array_vec_len};
 ghost use Rattle.shm_allocator.specs.Flags.{trues};
+
+use arrayvec::ArrayVec;
 
 mod list;
 
-// Which of `count` buckets are free: the first `depth` of `free`, the next one to give out last, so that
-// giving out and taking back cost the same however many there are.
+// Which of `count` buckets are free: those in `free`, the next one to give out last, so that giving out and taking
+// back cost the same however many there are.
 #[derive(Drop)]
 pub struct Buckets {
     count: u32,
-    depth: u32,
-    free: [u32; 1024],
+    free: ArrayVec<u32, 1024>,
     taken: [bool; 1024],
-    ghost long: { (length free ≡ 1024) × (length taken ≡ 1024) },
-    ghost few: { (depth ≤ count) × (count ≤ 1024) },
-    ghost inside: { (j : ℕ) → j < depth → slice_index free j < count },
-    ghost untaken: { (j : ℕ) → j < depth → slice_index_or taken (slice_index free j) false ≡ false },
-    ghost apart: { (j k : ℕ) → j < k → k < depth → slice_index free j ≢ slice_index free k },
-    ghost whole: { depth + trues taken ≡ count },
+    ghost long: { length taken ≡ 1024 },
+    ghost few: { count ≤ 1024 },
+    ghost inside: { (j : ℕ) → j < array_vec_len free → slice_index free.items j < count },
+    ghost untaken: { (j : ℕ) → j < array_vec_len free → slice_index_or taken (slice_index free.items j) false ≡ false },
+    ghost apart: { (j k : ℕ) → j < k → k < array_vec_len free → slice_index free.items j ≢ slice_index free.items k },
+    ghost whole: { array_vec_len free + trues taken ≡ count },
 }

@@ -1,7 +1,10 @@
-ghost use Rattle.std.specs.Prelude.{◌≡◌, ◌+◌, ◌^◌, ◌<◌, ◌≤◌, MatchOption};
-ghost use Rattle.shm_allocator.specs.Numbers.{IsPowerOfTwo, Valid, rounded_up};
+ghost use Rattle.std.specs.Prelude.{◌≡◌, ◌+◌, ◌^◌, ◌<◌, ◌≤◌};
+ghost use Rattle.shm_allocator.specs.Numbers.{IsPowerOfTwo, rounded_up};
+
+pub use validation::BadLayout;
 
 pub(crate) mod growth;
+mod validation;
 
 // A request as it comes: how many bytes, and on which boundary. Nothing is known of either number.
 #[derive(Clone, Copy, PartialEq, Eq, Debug)]
@@ -17,24 +20,6 @@ pub struct ValidLayout {
     align: u32,
     ghost sized: { (1 ≤ size) × (size ≤ 16777216) },
     ghost aligned: { IsPowerOfTwo align × (align ≤ 65536) },
-}
-
-impl Layout {
-    // The request, if it keeps the rules.
-    pub fn validated(self) -> Option<ValidLayout>
-        ensures { MatchOption result (Valid self.size self.align → ⊥) (λ v. Valid self.size self.align × (v.size ≡ self.size) × (v.align ≡ self.align)) }
-    {
-        if self.size < 1 || self.size > 16_777_216 || self.align > 65_536 {
-            return None;
-        }
-        if !self.align.is_power_of_two() {
-            return None;
-        }
-        Some(ValidLayout {
-            size: self.size as u32,
-            align: self.align as u32,
-        })
-    }
 }
 
 impl ValidLayout {
@@ -70,5 +55,5 @@ pub(crate) fn round_up(x: u64, a: u64) -> u64
     ensures value { result ≡ rounded_up x a }
     ensures bound { (x ≤ result) × (result < x + a) }
 {
-    (x + (a - 1)) / a * a
+    x.next_multiple_of(a)
 }

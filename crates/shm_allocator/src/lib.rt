@@ -7,6 +7,7 @@ ghost use Rattle.shm_allocator.specs.Meaning.{Meaning, Lawful, Answered, Decline
 ghost use Rattle.shm_allocator.specs.declared.AllocationStrategy.TheVariants.{Static};
 
 use layout::ValidLayout;
+use pointer_offset::Denial;
 
 mod buckets;
 pub mod bump_allocator;
@@ -24,6 +25,7 @@ pub enum AllocationStrategy {
     Static,
 }
 
+// By hand, since a derived impl would promise nothing that a caller can name.
 impl Default for AllocationStrategy {
     ghost is_default = { λ way. way ≡ Static };
 
@@ -40,10 +42,10 @@ pub enum ShmAllocationError {
     ExceedsMaxSupportedAlignment,
 }
 
-impl ShmAllocationError {
-    pub fn number(&self) -> u8
-        ensures { result ≡ refusal_number self.now }
-    {
+impl Denial for ShmAllocationError {
+    ghost number_of = { refusal_number };
+
+    fn number(&self) -> u8 {
         match self {
             ShmAllocationError::OutOfMemory => 20,
             ShmAllocationError::SizeTooLarge => 21,
@@ -56,10 +58,10 @@ impl ShmAllocationError {
 #[derive(Clone, Copy, PartialEq, Eq, Debug)]
 pub struct NotHeld;
 
-impl NotHeld {
-    pub fn number(&self) -> u8
-        ensures { result ≡ not_held_number self.now }
-    {
+impl Denial for NotHeld {
+    ghost number_of = { not_held_number };
+
+    fn number(&self) -> u8 {
         11
     }
 }

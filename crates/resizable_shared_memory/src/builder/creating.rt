@@ -13,16 +13,13 @@ use pointer_offset::SegmentId;
 use shared_memory::SegmentStore;
 use shared_memory::fault::{Opened, SharedMemoryCreateError};
 use shared_memory::name::BaseName;
-use shm_allocator::layout::{Layout, ValidLayout};
+use shm_allocator::layout::ValidLayout;
 use shm_allocator::{SharedMemorySetupHint, ShmAllocator};
 
 fn one_byte() -> ValidLayout
     ensures { result ≡ one_byte }
 {
-    let Some(layout) = (Layout { size: 1, align: 1 }).validated() else {
-        unreachable()
-    };
-    layout
+    ValidLayout::least()
 }
 
 fn make_management<A: ShmAllocator, S: SegmentStore>(
@@ -60,9 +57,7 @@ impl DynamicMemoryBuilder<'_> {
         ensures { CreatesRecord A.ShmAllocator.means self.entry.name.now self.entry.layout self.entry.chunks self.entry.strategy (S.SegmentStore.means store.old) result (S.SegmentStore.means store.new) }
     {
         let base = BaseName::new(self.name)?;
-        let Some(layout) = self.layout.validated() else {
-            return Err(ResizableShmCreateError::BadLayout);
-        };
+        let layout = ValidLayout::try_from(self.layout)?;
         let management = make_management::<A, S>(store, &base)?;
         let hint = A::initial_setup_hint(layout, self.chunks);
         let segment = make_first::<A, S>(store, &base, hint, management.handle)?;

@@ -19,9 +19,7 @@ impl<A: ShmAllocator> DynamicMemory<A> {
     ) -> Result<Chunk, ResizableShmAllocationError>
         ensures { Allocates A.ShmAllocator.means layout self.old (S.SegmentStore.means store.old) result self.new (S.SegmentStore.means store.new) }
     {
-        let Some(valid) = layout.validated() else {
-            return Err(ResizableShmAllocationError::BadLayout);
-        };
+        let valid = ValidLayout::try_from(layout)?;
         if self.tables.ledger.is_full() {
             return Err(ResizableShmAllocationError::LedgerFull);
         }

@@ -4,6 +4,7 @@ ghost use Rattle.resizable_shared_memory.specs.declared.view.fault.ViewOpenError
 ghost use Rattle.std.specs.Prelude.{◌≡◌};
 
 use super::ClosingMark;
+use pointer_offset::Denial;
 use shared_memory::fault::SharedMemoryOpenError;
 use shared_memory::name::BadName;
 
@@ -16,10 +17,10 @@ pub enum ViewOpenError {
     SharedMemoryOpenError(SharedMemoryOpenError),
 }
 
-impl ViewOpenError {
-    pub fn number(&self) -> u8
-        ensures { result ≡ view_open_number self.now }
-    {
+impl Denial for ViewOpenError {
+    ghost number_of = { view_open_number };
+
+    fn number(&self) -> u8 {
         match self {
             ViewOpenError::BadName => 2,
             ViewOpenError::WrongAllocatorSelected => 28,
@@ -54,10 +55,10 @@ pub enum RegisterError {
     SharedMemoryOpenError(SharedMemoryOpenError),
 }
 
-impl RegisterError {
-    pub fn number(&self) -> u8
-        ensures { result ≡ register_number self.now }
-    {
+impl Denial for RegisterError {
+    ghost number_of = { register_number };
+
+    fn number(&self) -> u8 {
         match self {
             RegisterError::ViewerClosed => 18,
             RegisterError::RegistrationsFull => 16,
@@ -83,10 +84,10 @@ pub enum UnregisterError {
     NotRegistered,
 }
 
-impl UnregisterError {
-    pub fn number(&self) -> u8
-        ensures { result ≡ unregister_number self.now }
-    {
+impl Denial for UnregisterError {
+    ghost number_of = { unregister_number };
+
+    fn number(&self) -> u8 {
         match self {
             UnregisterError::ViewerClosed => 18,
             UnregisterError::NotMapped => 14,
@@ -99,10 +100,10 @@ impl UnregisterError {
 #[derive(Clone, Copy, PartialEq, Eq, Debug)]
 pub struct ViewerClosed;
 
-impl ViewerClosed {
-    pub fn number(&self) -> u8
-        ensures { result ≡ viewer_closed_number self.now }
-    {
+impl Denial for ViewerClosed {
+    ghost number_of = { viewer_closed_number };
+
+    fn number(&self) -> u8 {
         18
     }
 }
@@ -112,10 +113,10 @@ pub struct ViewCloseError {
     pub mark: ClosingMark,
 }
 
-impl ViewCloseError {
-    pub fn number(&self) -> u8
-        ensures { result ≡ close_number self.now }
-    {
+impl Denial for ViewCloseError {
+    ghost number_of = { close_number };
+
+    fn number(&self) -> u8 {
         18
     }
 }

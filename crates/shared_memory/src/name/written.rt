@@ -5,12 +5,12 @@ ghost use Rattle.shared_memory.specs.BaseNames.{GoodBase, name_byte, name_bytes}
 ghost use Rattle.shared_memory.specs.Names.{text, written, name_number, decimal, segment_name, management_name, NamesApart};
 
 use super::{BadName, BaseName, SegmentName};
-use pointer_offset::SegmentId;
+use pointer_offset::{Denial, SegmentId};
 
-impl BadName {
-    pub fn number(&self) -> u8
-        ensures { result ≡ name_number self.now }
-    {
+impl Denial for BadName {
+    ghost number_of = { name_number };
+
+    fn number(&self) -> u8 {
         2
     }
 }

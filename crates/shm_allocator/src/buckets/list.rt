@@ -1,20 +1,20 @@
-ghost use Rattle.std.specs.Prelude.{◌≡◌, ℕ, ◌+◌, ◌<◌, ◌≤◌, true, false};
+ghost use Rattle.std.specs.Prelude.{◌≡◌, ◌<◌, ◌≤◌, true, MatchOption};
 ghost use Rattle.shm_allocator.specs.Buckets.{listed, flag, empty, New, Popped, Pushed};
 
 use super::Buckets;
+use arrayvec::ArrayVec;
 
 impl Buckets {
     pub(crate) fn new(count: u32) -> Buckets
         requires { count ≤ 1024 }
         ensures { New count result }
     {
-        let mut free = [0u32; 1024];
-        for i in 0..count {
-            free[i as usize] = count - 1 - i;
+        let mut free = ArrayVec::new();
+        for i in (0..count).rev() {
+            free.push(i);
         }
         Buckets {
             count,
-            depth: count,
             free,
             taken: [false; 1024],
         }
@@ -31,7 +31,7 @@ impl Buckets {
     pub(crate) fn is_full(&self) -> bool
         ensures { result ≡ empty (listed self.now) }
     {
-        self.depth == 0
+        self.free.is_empty()
     }
 
     pub(crate) fn is_taken(&self, i: u32) -> bool
@@ -42,16 +42,12 @@ impl Buckets {
     }
 
     // The front of the free buckets, which is taken from then on.
-    pub(crate) fn pop(&mut self) -> u32
-        requires { empty (listed self.old) ≡ false }
-        ensures popped { Popped self.old result self.new }
-        ensures bound { result < self.old.count }
+    pub(crate) fn pop(&mut self) -> Option<u32>
+        ensures { MatchOption result ((empty (listed self.old) ≡ true) × (self.new ≡ self.old)) (λ i. Popped self.old i self.new × (i < self.old.count)) }
     {
-        let top = self.depth - 1;
-        let i = self.free[top as usize];
-        self.depth = top;
+        let i = self.free.pop()?;
         self.taken[i as usize] = true;
-        i
+        Some(i)
     }
 
     // A taken bucket becomes the front of the free ones.
@@ -60,8 +56,7 @@ impl Buckets {
         requires taken { flag self.old i ≡ true }
         ensures { Pushed self.old i self.new }
     {
-        self.free[self.depth as usize] = i;
-        self.depth += 1;
+        self.free.push(i);
         self.taken[i as usize] = false;
     }
 }

@@ -32,9 +32,8 @@ impl ShmAllocator for BumpAllocator {
     }
 
     fn initial_setup_hint(layout: ValidLayout, chunks: u64) -> SharedMemorySetupHint<Config> {
-        let chunk = round_up(layout.size() as u64, layout.align() as u64);
         SharedMemorySetupHint {
-            payload_size: chunk as u128 * chunks as u128,
+            payload_size: layout.rounded().size() as u128 * chunks as u128,
             config: Config {},
         }
     }

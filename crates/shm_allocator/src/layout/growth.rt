@@ -28,7 +28,7 @@ impl AllocationStrategy {
 
 impl ValidLayout {
     // The least layout: one byte anywhere.
-    pub(crate) fn least() -> ValidLayout
+    pub fn least() -> ValidLayout
         ensures { (result.size ≡ 1) × (result.align ≡ 1) }
     {
         ValidLayout { size: 1, align: 1 }

@@ -7,7 +7,7 @@ ghost use Rattle.shm_allocator.specs.Pools.{pool_lawful};
 
 use super::{Config, PoolAllocator};
 use crate::buckets::Buckets;
-use crate::layout::{Layout, ValidLayout, round_up};
+use crate::layout::{Layout, ValidLayout};
 use crate::{
     AllocationStrategy, BucketAllocator, NotHeld, SharedMemorySetupHint, ShmAllocationError,
     ShmAllocator,
@@ -55,10 +55,7 @@ impl PoolAllocator {
 fn bucket_of(config: Config, payload: u32) -> Option<ValidLayout>
     ensures { MatchOption result (pool_possible config payload ≡ false) (λ b. (pool_possible config payload ≡ true) × (b.size ≡ bucket_size_of config) × (b.align ≡ config.bucket_layout.align)) }
 {
-    let Some(layout) = config.bucket_layout.validated() else {
-        return None;
-    };
-    let bucket = layout.rounded();
+    let bucket = ValidLayout::try_from(config.bucket_layout).ok()?.rounded();
     if bucket.align() > MAX_ALIGNMENT || payload / bucket.size() > MAX_BUCKETS {
         return None;
     }
@@ -77,9 +74,8 @@ impl ShmAllocator for PoolAllocator {
     }
 
     fn initial_setup_hint(layout: ValidLayout, chunks: u64) -> SharedMemorySetupHint<Config> {
-        let bucket = round_up(layout.size() as u64, layout.align() as u64);
         SharedMemorySetupHint {
-            payload_size: bucket as u128 * chunks as u128,
+            payload_size: layout.rounded().size() as u128 * chunks as u128,
             config: Config {
                 bucket_layout: Layout::from(layout),
             },
@@ -138,10 +134,7 @@ impl ShmAllocator for PoolAllocator {
         if layout.size() > self.layout.size() {
             return Err(ShmAllocationError::SizeTooLarge);
         }
-        if self.buckets.is_full() {
-            return Err(ShmAllocationError::OutOfMemory);
-        }
-        let i = self.buckets.pop();
+        let i = self.buckets.pop().ok_or(ShmAllocationError::OutOfMemory)?;
         Ok(i * self.layout.size())
     }
 

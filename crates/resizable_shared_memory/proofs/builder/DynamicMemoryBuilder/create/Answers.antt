@@ -13,8 +13,10 @@ returns-in_err-base g c =
     let p = err_from_is_err_and c.from_residual.result c.from_residual.ensures.1 in
     rw (p.1, p.2) (bad_name c.in_err-base.ensures.0, same_room (same _))
 
-pub returns-in_default : goal.returns-in_default
-returns-in_default g c = (bad_layout c.in_ok-base.ensures.0 c.in_default.ensures, same_room (same _))
+pub returns-in_err-layout : goal.returns-in_err-layout
+returns-in_err-layout g c =
+    let p = err_from_is_err_and c.from_residual-in_err-layout.result c.from_residual-in_err-layout.ensures.1 in
+    rw (p.1, p.2) (bad_layout c.in_ok-base.ensures.0 c.in_err-layout.ensures, same_room (same _))
 
 pub returns-in_err-management : goal.returns-in_err-management
 returns-in_err-management g c =
@@ -24,7 +26,7 @@ returns-in_err-management g c =
     let base = c.in_ok-base.ensures in
     let denied = made_as α s _ (Err c.in_err-management.field-0.0) (ap management_name base.1) refl c.in_err-management.ensures in
     rw (p.1, p.2) (
-      no_management base.0 c.in-Some.ensures.0 denied.0,
+      no_management base.0 c.in_ok-layout.ensures.0 denied.0,
       same_room denied.1,
     )
 
@@ -40,7 +42,7 @@ returns-in_err-segment g c =
     let denied = c.in_err-segment.ensures in
     let first = made_as α between denied.0 (Err c.in_err-segment.field-0.0) (ap (λ (n : List ℕ). segment_name n 0) base.1) c.initial_setup_hint-hint.ensures denied.1 in
     rw (p.1, p.2) (
-      no_segment c.in-Some.layout base.0 c.in-Some.ensures.1 c.in-Some.ensures.2 made first.0,
+      no_segment c.in_ok-layout.layout base.0 c.in_ok-layout.ensures.1 c.in_ok-layout.ensures.2 made first.0,
       undone s between denied.0 _ _ _ _ o made.2 first.1 denied.2,
     )
 
@@ -51,7 +53,7 @@ returns g c =
     let between = g.S.SegmentStore.means c.make_management.new.store in
     let t = g.S.SegmentStore.means c.make_first.new.store in
     let base = c.in_ok-base.ensures in
-    let v = c.in-Some.layout in
+    let v = c.in_ok-layout.layout in
     let o = c.in_ok-management.management in
     let q = c.in_ok-segment.segment in
     let hinted = c.initial_setup_hint-hint.ensures in (
@@ -60,8 +62,8 @@ returns g c =
       q,
       record {
         good = base.0;
-        size = c.in-Some.ensures.1;
-        align = c.in-Some.ensures.2;
+        size = c.in_ok-layout.ensures.1;
+        align = c.in_ok-layout.ensures.2;
         between = between;
         management = made_as α s between (Ok o) (ap management_name base.1) refl c.in_ok-management.ensures;
         first = made_as α between t (Ok q) (ap (λ (n : List ℕ). segment_name n 0) base.1) hinted c.in_ok-segment.ensures;

@@ -1,5 +1,6 @@
-use Rattle.std.proofs.Common.{◌≡◌, ℕ, ◌-◌, ◌<◌, length, get_or}
+use Rattle.std.proofs.Common.{◌≡◌, ◌-◌, reverse}
+use Rattle.std.specs.List.{range_with_len}
 use Rattle.shm_allocator.proofs.buckets.Buckets.new.Given as goal
 
 abbrev pub invariant-loop-i : goal.invariant-loop-i
-invariant-loop-i l = (length l.free ≡ 1024) × ((k : ℕ) → k < l.i → get_or l.free k 0 ≡ l.count - 1 - k)
+invariant-loop-i l = reverse l.free.items ≡ range_with_len l.i (l.count - l.i)

@@ -1,0 +1,35 @@
+ghost use Rattle.shm_allocator.specs.Layouts.{Validates, bad_layout_number};
+
+use super::{Layout, ValidLayout};
+use pointer_offset::Denial;
+
+// A request that breaks the rules.
+#[derive(Clone, Copy, PartialEq, Eq, Debug)]
+pub struct BadLayout;
+
+impl Denial for BadLayout {
+    ghost number_of = { bad_layout_number };
+
+    fn number(&self) -> u8 {
+        1
+    }
+}
+
+impl TryFrom<Layout> for ValidLayout {
+    type Error = BadLayout;
+
+    ghost try_from_gives = { Validates };
+
+    fn try_from(layout: Layout) -> Result<ValidLayout, BadLayout> {
+        if layout.size < 1 || layout.size > 16_777_216 || layout.align > 65_536 {
+            return Err(BadLayout);
+        }
+        if !layout.align.is_power_of_two() {
+            return Err(BadLayout);
+        }
+        Ok(ValidLayout {
+            size: layout.size as u32,
+            align: layout.align as u32,
+        })
+    }
+}
