@@ -1,5 +1,5 @@
-use pointer_offset::Denial;
 use crate::memories::{frames, holdings, layout, memory};
+use pointer_offset::Denial;
 use resizable_shared_memory::fault::ChunkWriteError;
 use resizable_shared_memory::memory::DynamicMemory;
 use shared_memory::SegmentStore;

@@ -1,9 +1,9 @@
-use pointer_offset::Denial;
 use crate::SegmentStore;
 use crate::fault::{AccessError, Opened, SharedMemoryCreateError};
 use crate::frame_store::FrameStore;
 use crate::quota_store::QuotaStore;
 use crate::span_store::SpanStore;
+use pointer_offset::Denial;
 use std::process::Abort;
 use std::test::Fail;
 
