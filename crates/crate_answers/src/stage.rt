@@ -1,46 +1,58 @@
-use crate::answer::{Counts, Difference};
-use crate::words::Call;
-use std::alloc::AllocError;
+use crate::call::{Call, Creation, Kind};
+use crate::counts::Counts;
+use crate::finding::{Finding, Trouble};
+use crate::reason::Reason;
+use crate::subject::Subject;
+use shm_allocator::bump_allocator::BumpAllocator;
+use shm_allocator::layout::ValidLayout;
+use shm_allocator::pool_allocator::PoolAllocator;
+use std::alloc::Global;
 
-// What came of comparing a call.
-#[derive(Clone, Copy)]
-pub enum Finding {
-    Same,
-    // The allocators alone cannot tell.
-    PassedOver,
-    Differs(Difference),
-    // No list may have this call here.
-    Misplaced,
+// How far a list has come.
+#[derive(Drop)]
+pub enum Stage {
+    // There is no memory: only viewers are opened.
+    Uncreated,
+    Pool(Subject<PoolAllocator>),
+    Bump(Subject<BumpAllocator>),
+    Ended,
 }
 
-// What the calls of a list after its creation are asked of.
-pub trait Stage: Drop {
-    fn carry_out(&mut self, call: Call, counts: &mut Counts) -> Result<Finding, AllocError>;
+impl Stage {
+    pub fn create(
+        &mut self,
+        heap: Global,
+        creation: Creation,
+        counts: &mut Counts,
+    ) -> Result<Finding, Trouble> {
+        let layout = ValidLayout::try_from(creation.layout).map_err(|_| Trouble::Misplaced)?;
+        // The store may have denied it, where the allocator would not.
+        if creation.recorded == Err(Reason::InternalError) {
+            return Ok(Finding::PassedOver);
+        }
+        let created = match creation.kind {
+            Kind::Pool => Subject::create(heap, creation, layout, counts)?.map(Stage::Pool),
+            Kind::Bump => Subject::create(heap, creation, layout, counts)?.map(Stage::Bump),
+        };
+        *self = created.unwrap_or(Stage::Uncreated);
+        Ok(Finding::Same)
+    }
+
+    pub fn carry_out(&mut self, call: &Call, counts: &mut Counts) -> Result<Finding, Trouble> {
+        let found = match self {
+            Stage::Pool(subject) => subject.carry_out(call, counts)?,
+            Stage::Bump(subject) => subject.carry_out(call, counts)?,
+            Stage::Uncreated if matches!(call, Call::OpenViewer) => Finding::PassedOver,
+            Stage::Uncreated | Stage::Ended => return Err(Trouble::Misplaced),
+        };
+        if matches!(call, Call::End) {
+            *self = Stage::Ended;
+        }
+        Ok(found)
+    }
 
     // The list may end here.
-    fn may_end(&self) -> bool;
-}
-
-// A list whose creation was denied: only viewers are opened from then on.
-#[derive(Drop)]
-pub struct Uncreated {}
-
-impl Stage for Uncreated {
-    fn carry_out(&mut self, call: Call, counts: &mut Counts) -> Result<Finding, AllocError> {
-        match call {
-            Call::OpenViewer => Ok(Finding::PassedOver),
-            _ => Ok(Finding::Misplaced),
-        }
-    }
-
-    fn may_end(&self) -> bool {
-        true
-    }
-}
-
-pub fn found(compared: Result<(), Difference>) -> Finding {
-    match compared {
-        Ok(()) => Finding::Same,
-        Err(difference) => Finding::Differs(difference),
+    pub fn may_end(&self) -> bool {
+        matches!(self, Stage::Uncreated | Stage::Ended)
     }
 }

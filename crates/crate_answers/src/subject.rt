@@ -1,33 +1,40 @@
-use crate::answer::{Answer, Counts};
-use crate::stage::{Finding, Stage, found};
-use crate::words::{Call, Creation};
-use pointer_offset::{Denial, PointerOffset, SegmentId};
+use crate::answer::Answer;
+use crate::call::{Call, Creation};
+use crate::counts::Counts;
+use crate::finding::{Finding, Trouble};
+use crate::reason::Reason;
+use pointer_offset::{PointerOffset, SegmentId};
 use shm_allocator::layout::{Layout, ValidLayout};
 use shm_allocator::{AllocationStrategy, SharedMemorySetupHint, ShmAllocationError, ShmAllocator};
 use std::alloc::{AllocError, Global};
-
-// The numbers of denials that are not an allocator's.
-const SPENT_IDS: u64 = 23;
-
-const NO_BYTES: u64 = 25;
-
-const NOT_MADE: u64 = 26;
 
 // An accepted allocation.
 #[derive(Clone, Copy)]
 struct Chunk {
     segment: u8,
-    start: u32,
-    size: u32,
-    held: bool,
+    // None once it was returned.
+    block: Option<Block>,
 }
 
-// The next segment, as an allocator's hint wants it.
 #[derive(Clone, Copy)]
-struct Growth<C> {
+struct Block {
+    start: u32,
+    size: u32,
+}
+
+// What a segment can be set up with.
+#[derive(Clone, Copy)]
+struct Setup<C> {
+    segment: u8,
     config: C,
     payload: u32,
-    segment: u8,
+}
+
+// What a round of a request comes to.
+#[derive(Clone, Copy)]
+enum Round<C> {
+    Start(u32),
+    Growth(Setup<C>),
 }
 
 // A memory without its store: the allocator of the current segment, and what was given out so far.
@@ -37,215 +44,171 @@ pub struct Subject<A: ShmAllocator> {
     segment: u8,
     strategy: AllocationStrategy,
     chunks: Vec<Chunk>,
-    ended: bool,
 }
 
-// The payload size of a hint that a segment can be set up from.
-fn possible_payload<A: ShmAllocator>(hint: SharedMemorySetupHint<A::Configuration>) -> Option<u32> {
-    let Ok(payload) = u32::try_from(hint.payload_size) else {
-        return None;
-    };
-    if A::can_set_up(hint.config, payload) {
-        Some(payload)
-    } else {
-        None
-    }
+// The setup that a hint asks for, if it is possible.
+fn hinted_setup<A: ShmAllocator>(
+    segment: u8,
+    hint: SharedMemorySetupHint<A::Configuration>,
+) -> Result<Setup<A::Configuration>, Reason> {
+    let config = hint.config;
+    u32::try_from(hint.payload_size)
+        .ok()
+        .filter(|payload| A::can_set_up(config, *payload))
+        .map(|payload| Setup {
+            segment,
+            config,
+            payload,
+        })
+        .ok_or(Reason::InternalError)
 }
 
-// What the hint for a first segment comes to.
-fn creation_answer(hinted: u128, possible: Option<u32>) -> Answer {
-    if hinted == 0 {
-        return Answer::NotCreated(NO_BYTES);
+fn first_setup<A: ShmAllocator>(
+    layout: ValidLayout,
+    chunks: u64,
+) -> Result<Setup<A::Configuration>, Reason> {
+    let hint = A::initial_setup_hint(layout, chunks);
+    if hint.payload_size == 0 {
+        return Err(Reason::SizeIsZero);
     }
-    match possible {
-        Some(_) => Answer::Created(hinted),
-        None => Answer::NotCreated(NOT_MADE),
-    }
+    hinted_setup::<A>(0, hint)
 }
 
 impl<A: ShmAllocator> Subject<A> {
-    // The memory that a list creates, or what was found where there is none.
+    // The memory that a list creates, unless its creation is denied.
     pub fn create(
         heap: Global,
         creation: Creation,
-        answer: Answer,
+        layout: ValidLayout,
         counts: &mut Counts,
-    ) -> Result<Subject<A>, Finding> {
-        let Ok(layout) = ValidLayout::try_from(creation.layout) else {
-            return Err(Finding::Misplaced);
-        };
-        if answer == Answer::NotCreated(NOT_MADE) {
-            return Err(Finding::PassedOver);
-        }
-        let hint = A::initial_setup_hint(layout, creation.chunks);
-        let possible = possible_payload::<A>(hint);
-        let came = creation_answer(hint.payload_size, possible);
-        if let Err(difference) = counts.compare(answer, came) {
-            return Err(Finding::Differs(difference));
-        }
-        let Answer::Created(_) = came else {
-            return Err(Finding::Same);
-        };
-        let Some(payload) = possible else {
-            return Err(Finding::Same);
-        };
-        Ok(Subject {
-            allocator: A::set_up(hint.config, payload),
-            segment: 0,
+    ) -> Result<Option<Subject<A>>, Trouble> {
+        let setup = first_setup::<A>(layout, creation.chunks);
+        let came = setup.map(|setup| u64::from(setup.payload));
+        counts.compare(Answer::Creation(creation.recorded), Answer::Creation(came))?;
+        let subject = setup.ok().map(|setup| Subject {
+            allocator: A::set_up(setup.config, setup.payload),
+            segment: setup.segment,
             strategy: creation.strategy,
             chunks: Vec::new(heap),
-            ended: false,
-        })
+        });
+        Ok(subject)
     }
 
-    // What a start of the current segment's allocator is as a value.
-    fn start(&self, start: u32) -> Answer {
-        let segment = SegmentId::new(self.segment);
-        match PointerOffset::from_offset_and_segment_id(start as usize, segment) {
-            Ok(at) => Answer::Start(at.as_value()),
-            Err(e) => Answer::Denied(e.number() as u64),
-        }
-    }
-
-    // The segment to make after a refusal, or the answer where none can be made.
-    fn growth(
-        &self,
-        refusal: ShmAllocationError,
-        layout: ValidLayout,
-    ) -> Result<Growth<A::Configuration>, Answer> {
-        if self.strategy == AllocationStrategy::Static {
-            return Err(Answer::Denied(refusal.number() as u64));
-        }
-        let Some(segment) = self.segment.checked_add(1) else {
-            return Err(Answer::Denied(SPENT_IDS));
-        };
-        let hint = self.allocator.resize_hint(layout, self.strategy);
-        match possible_payload::<A>(hint) {
-            Some(payload) => Ok(Growth {
-                config: hint.config,
-                payload,
-                segment,
-            }),
-            None => Err(Answer::Denied(NOT_MADE)),
-        }
-    }
-
-    // A round in which a segment was made.
-    fn grow(&mut self, layout: ValidLayout) -> Answer {
-        let refusal = match self.allocator.allocate(layout) {
-            Ok(start) => return self.start(start),
-            Err(refusal) => refusal,
-        };
-        match self.growth(refusal, layout) {
-            Ok(growth) => {
-                self.allocator = A::set_up(growth.config, growth.payload);
-                self.segment = growth.segment;
-                Answer::Made(growth.payload as u128)
-            }
-            Err(answer) => answer,
-        }
-    }
-
-    // The last round of a request, in which none was made.
-    fn finish(&mut self, layout: ValidLayout) -> Result<Answer, AllocError> {
-        match self.allocator.allocate(layout) {
-            Ok(start) => {
-                self.chunks.push(Chunk {
-                    segment: self.segment,
-                    start,
-                    size: layout.size(),
-                    held: true,
-                })?;
-                Ok(self.start(start))
-            }
-            Err(refusal) => match self.growth(refusal, layout) {
-                Ok(_) => Ok(Answer::LeftToStore),
-                Err(answer) => Ok(answer),
-            },
+    pub fn carry_out(&mut self, call: &Call, counts: &mut Counts) -> Result<Finding, Trouble> {
+        match call {
+            Call::Create(_) => Err(Trouble::Misplaced),
+            Call::Allocate {
+                layout,
+                made,
+                recorded,
+            } => self.allocate(*layout, made.as_slice(), *recorded, counts),
+            Call::Return { chunk } => self.give_back(*chunk, counts),
+            Call::BucketSize { chunk, recorded } => self.bucket_size(*chunk, *recorded, counts),
+            Call::OpenViewer | Call::View | Call::End => Ok(Finding::PassedOver),
         }
     }
 
     fn allocate(
         &mut self,
         layout: Layout,
-        answer: Answer,
         made: &[u64],
+        recorded: Result<u64, Reason>,
         counts: &mut Counts,
-    ) -> Result<Finding, AllocError> {
-        let Ok(layout) = ValidLayout::try_from(layout) else {
-            return Ok(Finding::Misplaced);
-        };
+    ) -> Result<Finding, Trouble> {
+        let layout = ValidLayout::try_from(layout).map_err(|_| Trouble::Misplaced)?;
         for payload in made {
             let came = self.grow(layout);
-            if let Err(difference) = counts.compare(Answer::Made(*payload as u128), came) {
-                return Ok(Finding::Differs(difference));
-            }
+            counts.compare(Answer::Growth(*payload), came)?;
         }
         let came = self.finish(layout)?;
-        Ok(found(counts.compare(answer, came)))
+        counts.compare(Answer::Allocation(recorded), came)
     }
 
-    // A chunk that is held becomes one that is not.
-    fn release(&mut self, place: usize) -> Option<Chunk> {
-        let Some(chunk) = self.chunks.get_mut(place) else {
-            return None;
-        };
-        if !chunk.held {
-            return None;
-        }
-        chunk.held = false;
-        Some(*chunk)
-    }
-
-    fn give_back(&mut self, place: usize, counts: &mut Counts) -> Finding {
-        let Some(chunk) = self.release(place) else {
-            return Finding::Misplaced;
-        };
-        if chunk.segment != self.segment {
-            return Finding::PassedOver;
-        }
-        let came = match self.allocator.deallocate(chunk.start, chunk.size) {
-            Ok(()) => Answer::Returned,
-            Err(e) => Answer::NotReturned(e.number() as u64),
-        };
-        found(counts.compare(Answer::Returned, came))
-    }
-
-    fn bucket_size(&self, place: usize, answer: Answer, counts: &mut Counts) -> Finding {
-        let Some(chunk) = self.chunks.get(place) else {
-            return Finding::Misplaced;
-        };
-        if chunk.segment != self.segment {
-            return Finding::PassedOver;
-        }
-        let came = Answer::BucketSize(self.allocator.bucket() as u64);
-        found(counts.compare(answer, came))
-    }
-}
-
-impl<A: ShmAllocator> Stage for Subject<A> {
-    fn carry_out(&mut self, call: Call, counts: &mut Counts) -> Result<Finding, AllocError> {
-        if self.ended {
-            return Ok(Finding::Misplaced);
-        }
-        match call {
-            Call::Create { .. } => Ok(Finding::Misplaced),
-            Call::Allocate {
-                layout,
-                answer,
-                made,
-            } => self.allocate(layout, answer, made.as_slice(), counts),
-            Call::Return { chunk } => Ok(self.give_back(chunk, counts)),
-            Call::BucketSize { chunk, answer } => Ok(self.bucket_size(chunk, answer, counts)),
-            Call::OpenViewer | Call::View => Ok(Finding::PassedOver),
-            Call::End => {
-                self.ended = true;
-                Ok(Finding::PassedOver)
+    // A round in which a segment was made.
+    fn grow(&mut self, layout: ValidLayout) -> Answer {
+        match self.round(layout) {
+            Ok(Round::Start(start)) => Answer::Allocation(self.value_of(start)),
+            Ok(Round::Growth(setup)) => {
+                self.allocator = A::set_up(setup.config, setup.payload);
+                self.segment = setup.segment;
+                Answer::Growth(u64::from(setup.payload))
             }
+            Err(reason) => Answer::Allocation(Err(reason)),
         }
     }
 
-    fn may_end(&self) -> bool {
-        self.ended
+    // The last round of a request, in which none was made.
+    fn finish(&mut self, layout: ValidLayout) -> Result<Answer, AllocError> {
+        match self.round(layout) {
+            Ok(Round::Start(start)) => {
+                let size = layout.size();
+                self.chunks.push(Chunk {
+                    segment: self.segment,
+                    block: Some(Block { start, size }),
+                })?;
+                Ok(Answer::Allocation(self.value_of(start)))
+            }
+            Ok(Round::Growth(_)) => Ok(Answer::LeftToStore),
+            Err(reason) => Ok(Answer::Allocation(Err(reason))),
+        }
+    }
+
+    fn round(&mut self, layout: ValidLayout) -> Result<Round<A::Configuration>, Reason> {
+        match self.allocator.allocate(layout) {
+            Ok(start) => Ok(Round::Start(start)),
+            Err(refusal) => self.growth(refusal, layout).map(Round::Growth),
+        }
+    }
+
+    // The segment to make after a refusal.
+    fn growth(
+        &self,
+        refusal: ShmAllocationError,
+        layout: ValidLayout,
+    ) -> Result<Setup<A::Configuration>, Reason> {
+        if self.strategy == AllocationStrategy::Static {
+            return Err(Reason::of(refusal));
+        }
+        let segment = self
+            .segment
+            .checked_add(1)
+            .ok_or(Reason::MaxReallocationsReached)?;
+        hinted_setup::<A>(segment, self.allocator.resize_hint(layout, self.strategy))
+    }
+
+    // What a start of the current segment's allocator is as a value.
+    fn value_of(&self, start: u32) -> Result<u64, Reason> {
+        let segment = SegmentId::new(self.segment);
+        let at = PointerOffset::from_offset_and_segment_id(start as usize, segment).map_err(
+            Reason::of,
+        )?;
+        Ok(at.as_value())
+    }
+
+    fn give_back(&mut self, place: usize, counts: &mut Counts) -> Result<Finding, Trouble> {
+        let chunk = self.chunks.get_mut(place).ok_or(Trouble::Misplaced)?;
+        let block = chunk.block.take().ok_or(Trouble::Misplaced)?;
+        if chunk.segment != self.segment {
+            return Ok(Finding::PassedOver);
+        }
+        let came = self
+            .allocator
+            .deallocate(block.start, block.size)
+            .map_err(Reason::of);
+        counts.compare(Answer::Return(Ok(())), Answer::Return(came))
+    }
+
+    fn bucket_size(
+        &self,
+        place: usize,
+        recorded: u64,
+        counts: &mut Counts,
+    ) -> Result<Finding, Trouble> {
+        let chunk = self.chunks.get(place).ok_or(Trouble::Misplaced)?;
+        if chunk.segment != self.segment {
+            return Ok(Finding::PassedOver);
+        }
+        let came = u64::from(self.allocator.bucket());
+        counts.compare(Answer::BucketSize(recorded), Answer::BucketSize(came))
     }
 }

@@ -5,8 +5,8 @@ use Rattle.shared_memory.specs.declared.fault.Opened.{Opened}
 use Rattle.shared_memory.specs.declared.table.Place.{Place}
 use Rattle.shared_memory.specs.Extents.{Extent, Extents, extent_at, laid, occupied, filled_in, vacated, Rule, ruled, FreePlace, Monotone, StillLeave}
 use Rattle.shared_memory.specs.Meaning.{Segment, Store, Apart, GoodName, GoodAddress, Named, Changes, Ceases, Made}
-use Rattle.shared_memory.proofs.Laying.{away, undone}
-use Rattle.shared_memory.proofs.Optional.{none_some, same_some}
+use Rattle.shared_memory.specs.Laying.{away, undone}
+use Rattle.shared_memory.specs.Optional.{none_some, same_some}
 use Rattle.shared_memory.proofs.Sounds.{LeavesRoom, fewer_sound, stood, by, joined_sound}
 
 module _ (rule : Rule) (old new : ℕ → Option Segment) (es : Extents) (h : ℕ) (others : (k : ℕ) → (k ≡ h → ⊥) → new k ≡ old k) where

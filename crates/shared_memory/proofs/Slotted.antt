@@ -1,15 +1,18 @@
 -- What the slots of a table mean, as one is put and as bytes are written over.
-use Rattle.std.proofs.Common.{◌≡◌, ℕ, zero, suc, ◌+◌, ◌<◌, ◌≤◌, ◌⊎◌, List, [], ◌∷◌, length, set, replicate, Some, None, Option, sym, refl, ap, ◌∙◌, inl, inr, ⊎_elim, arith}
+use Rattle.std.proofs.Common.{◌≡◌, ℕ, zero, suc, ◌+◌, ◌<◌, ◌≤◌, true, false, ◌⊎◌, List, [], ◌∷◌, length, get_or, set, replicate, Some, None, Option, sym, refl, ap, ◌∙◌, inl, inr, ⊎_elim, arith}
 use lib.LanesLaws.{map-replicate}
 use lib.Seq.{map-set_same}
-use Rattle.std.proofs.lemmas.List.{get_or-set_same, get_or-set_other, length-map, map-set}
-use Rattle.std.specs.Option.{option_map as over}
+use Rattle.std.proofs.lemmas.List.{get_or_default, get_or-set_same, get_or-set_other, length-map, map-set}
+use Rattle.std.specs.Option.{is_none, option_map as over}
+use Rattle.std.specs.List.{position, position_from, list_all}
+use Rattle.std.proofs.lemmas.Iterator.Adapters.{position_from-zero}
+use Rattle.std.proofs.lemmas.Bool.{both_ways}
 use Rattle.shared_memory.specs.declared.table.Slot.{Slot}
 use Rattle.shared_memory.specs.Extents.{Extent, extent_at, first_free, Within, Meet}
 use Rattle.shared_memory.specs.Meaning.{Segment, patched, filled}
 use Rattle.shared_memory.specs.Slots.{segment, extent, slot_at, segments_in, extents_in}
-use Rattle.shared_memory.proofs.Laying.{away, first_free_at, first_free_full}
-use Rattle.shared_memory.proofs.Optional.{over_none, over_some}
+use Rattle.shared_memory.specs.Laying.{away}
+use Rattle.shared_memory.specs.Optional.{over_none, over_some}
 use Rattle.shared_memory.proofs.Overwriting.{length_part, part_outside, part_around}
 
 extent_over : (slots : List (Option Slot)) (h : ℕ) → extent_at (extents_in slots) h ≡ over extent (slot_at slots h)
@@ -42,11 +45,38 @@ module _ (slots : List (Option Slot)) where
   pub extents_put : (h : ℕ) (o : Option Slot) → extents_in (set slots h o) ≡ set (extents_in slots) h (over extent o)
   extents_put h o = map-set (over extent) slots h o
 
-  pub first_slot : (h : ℕ) → h < length slots → slot_at slots h ≡ None → ((k : ℕ) → k < h → slot_at slots k ≡ None → ⊥) → first_free (extents_in slots) ≡ Some h
-  first_slot h lt e f = first_free_at (extents_in slots) h (omega (arith, length_extents)) (slot_none h e) (λ k less p. f k less (extent_none k p))
+-- the first free handle is the first place at which nothing stands
+vacant_from : (slots : List (Option Slot)) (i : ℕ) → position_from is_none i slots ≡ over (λ k. i + k) (first_free (extents_in slots))
+vacant_from [] i = refl
+vacant_from (None ∷ os) i = let e : i ≡ i + 0 = omega arith in ap Some e
+vacant_from (Some x ∷ os) i = vacant_from os (i + 1) ∙ go (first_free (extents_in os))
+  where
+    go : (o : Option ℕ) → over (λ k. i + 1 + k) o ≡ over (λ k. i + k) (over suc o)
+    go None = refl
+    go (Some k) = let e : i + 1 + k ≡ i + suc k = omega arith in ap Some e
 
-  pub no_slot : ((k : ℕ) → k < length slots → slot_at slots k ≡ None → ⊥) → first_free (extents_in slots) ≡ None
-  no_slot f = first_free_full (extents_in slots) (λ k lt p. f k (omega (arith, length_extents)) (extent_none k p))
+pub vacant_free : (slots : List (Option Slot)) → position is_none slots ≡ first_free (extents_in slots)
+vacant_free slots = position_from-zero is_none slots ∙ (vacant_from slots 0 ∙ go (first_free (extents_in slots)))
+  where
+    go : (o : Option ℕ) → over (λ k. 0 + k) o ≡ o
+    go None = refl
+    go (Some k) = let e : 0 + k ≡ k = omega arith in ap Some e
+
+-- what a loop over the slots meets
+pub met : (slots seen : List (Option Slot)) (h : ℕ) (o : Option Slot) (x : Slot) → seen ≡ slots → h < length seen → o ≡ get_or seen h o → o ≡ Some x → slot_at slots h ≡ Some x
+met slots seen h o x same lt read is = ap (λ (xs : List (Option Slot)). slot_at xs h) (sym same) ∙ (get_or_default seen h None o lt ∙ (sym read ∙ is))
+
+-- nothing stands, or under some handle something does
+pub all_vacant : (slots : List (Option Slot)) → list_all is_none slots ≡ true → (h : ℕ) → slot_at slots h ≡ None
+all_vacant [] e h = refl
+all_vacant (None ∷ os) e zero = refl
+all_vacant (None ∷ os) e (suc h) = all_vacant os e h
+all_vacant (Some x ∷ os) e h = absurd (both_ways false refl e)
+
+pub not_all_vacant : (slots : List (Option Slot)) → list_all is_none slots ≡ false → (h : ℕ) × (x : Slot) × (slot_at slots h ≡ Some x)
+not_all_vacant [] e = absurd (both_ways true e refl)
+not_all_vacant (None ∷ os) e = let (h, x, p) = not_all_vacant os e in (suc h, x, p)
+not_all_vacant (Some x ∷ os) e = (0, x, refl)
 
 module _ (slots : List (Option Slot)) (bytes : List ℕ) where
   pub at_some : (h : ℕ) (x : Slot) → slot_at slots h ≡ Some x → segments_in slots bytes h ≡ Some (segment bytes x)

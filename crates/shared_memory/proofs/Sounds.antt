@@ -2,7 +2,7 @@
 use Rattle.std.proofs.Common.{◌≡◌, ℕ, ◌<◌, ◌≤◌, true, false, List, [], ◌∷◌, length, Some, None, Option, sym, refl, ap, ◌∙◌, subst, inl, inr, ⊎_elim}
 use Rattle.std.proofs.lemmas.Bool.{cases_eq}
 use Rattle.shared_memory.specs.Meaning.{Segment, Store, Apart, GoodName, GoodAddress, Sound, Empty, Same, Named, MakeDenied, room, size_at}
-use Rattle.shared_memory.proofs.Optional.{none_some, same_some}
+use Rattle.shared_memory.specs.Optional.{none_some, same_some}
 
 pub same : (s : Store) → Same s s
 same s = record { at = λ h. refl; room_without = λ hs z. refl; room_with = λ m z. refl }

@@ -1,20 +1,22 @@
--- What a table means, as a slot is put, bytes are written over, or a segment is made.
-use Rattle.std.proofs.Common.{◌≡◌, ℕ, ◌+◌, ◌^◌, ◌<◌, ◌≤◌, Bool, true, false, not, ◌⊎◌, List, length, set, replicate, is_some, Some, None, vec_items, MatchBool, Option, sym, refl, ap, ◌∙◌, subst, ⊎_elim, arith}
-use Rattle.std.proofs.lemmas.List.{get_or_past, length-replicate, with_items_is}
-use Rattle.std.proofs.lemmas.Bool.{cases_lt, both_ways}
+-- What a table means, as a slot is put, bytes are stored over, or a segment is made.
+use Rattle.std.proofs.Common.{◌≡◌, ℕ, ◌+◌, ◌^◌, ◌<◌, ◌≤◌, Bool, true, false, not, ◌⊎◌, List, length, set, replicate, is_some, Some, None, vec_items, Err, MatchBool, Option, sym, refl, ap, ◌∙◌, subst, ⊎_elim, arith}
+use Rattle.std.proofs.lemmas.List.{length-replicate, with_items_is}
+use Rattle.std.proofs.lemmas.Bool.{both_ways}
 use Rattle.std.specs.Vec.{with_items}
-use Rattle.std.specs.Option.{option_map as over}
-use Rattle.shared_memory.specs.declared.name.SegmentName.{SegmentName}
+use Rattle.std.specs.Option.{is_none, option_map as over}
+use Rattle.std.specs.List.{list_all}
+use Rattle.shared_memory.specs.declared.fault.AccessError.{AccessError}
+use Rattle.shared_memory.specs.declared.fault.AccessError.TheVariants.{BadHandle, OutsidePayload}
+use Rattle.shared_memory.specs.declared.table.stored_name.StoredName.{StoredName}
 use Rattle.shared_memory.specs.declared.table.Place.{Place}
 use Rattle.shared_memory.specs.declared.table.SegmentTable.{SegmentTable}
 use Rattle.shared_memory.specs.declared.table.Slot.{Slot}
 use Rattle.shared_memory.specs.Extents.{Extents, extent_at, laid, occupied, Rule, ruled, Paged, Within, Disjoint, Lie, FreePlace, Monotone, StillLeave}
-use Rattle.shared_memory.specs.Meaning.{Empty, Same, Named, GoodName, MakeDenied, GoodAddress, Changes, Ceases, Left, stands, ceased, Made, patched, filled, part}
-use Rattle.shared_memory.specs.Names.{written}
-use Rattle.shared_memory.specs.Slots.{name_of, extent, slot_at, segments_in, extents_in}
-use Rattle.shared_memory.specs.Tables.{slots_of, bytes_of, memory, segment_of, segments, extents, under, Puts, Patches, Relaid, Follows, Finds}
-use Rattle.shared_memory.proofs.Laying.{all_free, lie_free, lie_vacated, lie_occupied, meet_turned}
-use Rattle.shared_memory.proofs.Optional.{inside, is_none, over_none}
+use Rattle.shared_memory.specs.Meaning.{AccessDenied, access_number, Empty, Same, Named, GoodName, MakeDenied, GoodAddress, Changes, Ceases, Left, stands, ceased, Made, patched, filled, part}
+use Rattle.shared_memory.specs.Slots.{stored, name_of, extent, slot_at, segments_in, extents_in}
+use Rattle.shared_memory.specs.Tables.{slots_of, bytes_of, memory, segment_of, segments, extents, under, Puts, Patches, Relaid, Follows, Finds, Locates}
+use Rattle.shared_memory.specs.Laying.{all_free, lie_free, lie_vacated, lie_occupied, meet_turned}
+use Rattle.shared_memory.specs.Optional.{inside, none_some, is_none as none_is, over_none}
 use Rattle.shared_memory.proofs.Overwriting.{length_patched, part_part, part_written}
 use Rattle.shared_memory.proofs.Ruled.{opened, zeroed, changes, ceases, made}
 use Rattle.shared_memory.proofs.Slotted as slotted
@@ -30,7 +32,7 @@ Facts slots bytes = record { few : length slots ≤ 320; small : length bytes < 
 pub facts : (slots : List (Option Slot)) (bytes : List ℕ) → length slots ≤ 320 → length bytes < 2 ^ 63 → Lie (extents_in slots) (length bytes) → Facts slots bytes
 facts slots bytes few small l = record { few = few; small = small; paged = l.paged; within = l.within; disjoint = l.disjoint }
 
--- the memory was written over as a whole
+-- the memory was stored over as a whole
 module _ (s : SegmentTable) (all : List ℕ) (e : length all ≡ s.bytes.len) where
   pub refilled_bytes : vec_items (with_items s.bytes all) ≡ all
   refilled_bytes = with_items_is s.bytes all e
@@ -103,17 +105,17 @@ module _ (s : SegmentTable) (h : ℕ) where
 
       pub left_stands : Puts s h (Some y) t → (r : Bool) → is_some y.name ≡ not r → ((r ≡ true) × (y.maps ≡ 0 → ⊥)) ⊎ (r ≡ false) → (rule : Rule) → Left (under rule s) h (segment_of s y) (under rule t) true
       left_stands p r e either rule =
-          stands (λ q. ⊎_elim (λ a. a.1 q.1) (λ b. both_ways (is_some y.name) (ap is_some (over_none written y.name q.0)) (e ∙ ap not b)) either) (changes_follows p rule)
+          stands (λ q. ⊎_elim (λ a. a.1 q.1) (λ b. both_ways (is_some y.name) (ap is_some (over_none stored y.name q.0)) (e ∙ ap not b)) either) (changes_follows p rule)
 
       pub left_ceased : Puts s h None t → is_some y.name ≡ false → y.maps ≡ 0 → (rule : Rule) → Monotone rule → Left (under rule s) h (segment_of s y) (under rule t) false
       left_ceased p e m rule mono =
-          ceased (ap (over written) (is_none y.name e)) m
+          ceased (ap (over stored) (none_is y.name e)) m
           (subst (λ u. Ceases (under rule s) h u) (meant rule t p.slots p.bytes (relaid_freed t p).extents)
           (ceases rule (segments s) _ (extents s) h
           (λ k ne. slotted.put_other (slots_of s) (bytes_of s) h k None ne) mono
           (slotted.put_here (slots_of s) (bytes_of s) h None follows_inside)))
 
-  -- bytes of the segment under h were written over
+  -- bytes of the segment under h were stored over
   module _ (t : SegmentTable) (x : Slot) (at from : ℕ) (new : List ℕ) (e : slot_at (slots_of s) h ≡ Some x) (p : at ≡ x.start + from) (q : from + length new ≤ x.size) (d : Patches s at new t) where
     fit : at + length new ≤ memory s
     fit = omega (arith, within_memory x e)
@@ -131,10 +133,10 @@ module _ (s : SegmentTable) (h : ℕ) where
         (slotted.patched_here (slots_of s) (bytes_of s) h at from new x e p q (within_memory x e).0))
 
 -- the slot of a segment that is made at a place
-abbrev fresh_slot : Place → SegmentName → ℕ → ℕ → Slot
+abbrev fresh_slot : Place → StoredName → ℕ → ℕ → Slot
 fresh_slot p n size kind = record { name = Some n; allocator_id = kind; start = p.start; size = size; maps = 1 }
 
-module _ (s : SegmentTable) (p : Place) (n : SegmentName) (size kind : ℕ) (place : FreePlace (extents s) (memory s) p size) where
+module _ (s : SegmentTable) (p : Place) (n : StoredName) (size kind : ℕ) (place : FreePlace (extents s) (memory s) p size) where
   abbrev zeros : List ℕ
   zeros = replicate size 0
 
@@ -150,7 +152,7 @@ module _ (s : SegmentTable) (p : Place) (n : SegmentName) (size kind : ℕ) (pla
   laid_out : extents_in (set (slots_of s) p.handle (Some (fresh_slot p n size kind))) ≡ occupied (extents s) p size
   laid_out = slotted.extents_put (slots_of s) p.handle (Some (fresh_slot p n size kind))
 
-  -- zeros were written over, and the slot is put
+  -- zeros were stored over, and the slot is put
   module _ (m : SegmentTable) (d : Patches s p.start zeros m) where
     same_size : memory m ≡ memory s
     same_size = ap length d.bytes ∙ length_patched (bytes_of s) zeros p.start fits
@@ -171,7 +173,7 @@ module _ (s : SegmentTable) (p : Place) (n : SegmentName) (size kind : ℕ) (pla
       pub relaid_made : Relaid s (occupied (extents s) p size) t
       relaid_made = record { extents = ap extents_in slots_made ∙ laid_out; memory = ap length q.bytes ∙ same_size }
 
-      pub made_at : (text : List ℕ) → written n ≡ text → GoodName text → ((rule : Rule) → Named (under rule s) text → ⊥) → 1 ≤ size → (rule : Rule) → rule (extents s) size ≡ Some p → StillLeave rule (extents s) (occupied (extents s) p size) → Made (under rule s) text size kind (opened p kind) (under rule t)
+      pub made_at : (text : List ℕ) → stored n ≡ text → GoodName text → ((rule : Rule) → Named (under rule s) text → ⊥) → 1 ≤ size → (rule : Rule) → rule (extents s) size ≡ Some p → StillLeave rule (extents s) (occupied (extents s) p size) → Made (under rule s) text size kind (opened p kind) (under rule t)
       made_at text name good fresh sized rule chosen leave =
           subst (Made (under rule s) text size kind (opened p kind)) (meant rule t slots_made bytes_made relaid_made.extents)
           (made (segments s) _ (extents s) (slotted.told (slots_of s) (bytes_of s) s.within) (omega (arith, s.few, slotted.length_extents (slots_of s))) (memory s) s.small p text size kind place good sized
@@ -212,8 +214,17 @@ found_decides s n r b f e rule = subst (λ b. MatchBool b (Named (under rule s) 
     go None f = no_name s n f rule
     go (Some (h, x)) f = (h, segment_of s x, at_slot s h x f.0, f.1)
 
-pub all_empty : (s : SegmentTable) → ((k : ℕ) → k < length (slots_of s) → slot_at (slots_of s) k ≡ None) → (rule : Rule) → Empty (under rule s)
-all_empty s f rule h = at_none s h (⊎_elim (f h) (λ le. get_or_past (slots_of s) h None le) (cases_lt h (length (slots_of s))))
+pub vacant_decides : (s : SegmentTable) (b : Bool) → b ≡ list_all is_none (slots_of s) → (rule : Rule) → MatchBool b (Empty (under rule s)) (Empty (under rule s) → ⊥)
+vacant_decides s b e rule = subst (λ b. MatchBool b (Empty (under rule s)) (Empty (under rule s) → ⊥)) (sym e) (go (list_all is_none (slots_of s)) refl)
+  where
+    go : (t : Bool) → list_all is_none (slots_of s) ≡ t → MatchBool t (Empty (under rule s)) (Empty (under rule s) → ⊥)
+    go true q = λ h. at_none s h (slotted.all_vacant (slots_of s) q h)
+    go false q = λ none. let (h, x, p) = slotted.not_all_vacant (slots_of s) q in none_some (none h) (at_slot s h x p)
 
 pub free_empty : (s : SegmentTable) (n : ℕ) → extents s ≡ replicate n None → (rule : Rule) → Empty (under rule s)
 free_empty s n e rule h = at_none s h (slotted.extent_none (slots_of s) h (ap (λ es. extent_at es h) e ∙ all_free n h))
+
+-- why no byte is read or stored
+pub not_located : (s : SegmentTable) (h from n : ℕ) (e : AccessError) → Locates s h from n (Err e) → (rule : Rule) → AccessDenied (under rule s) h from n (access_number e)
+not_located s h from n BadHandle none rule = AccessDenied.bad_handle (at_none s h none)
+not_located s h from n OutsidePayload (x, e, lt) rule = AccessDenied.outside (segment_of s x) (at_slot s h x e) (omega (arith, segment_length s h x e))

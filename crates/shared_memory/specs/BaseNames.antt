@@ -1,5 +1,6 @@
 -- The rule of a base name, on the codes of its bytes.
-use Rattle.std.specs.Prelude.{◌≡◌, ℕ, ◌≤◌, Bool, true, ◌&&◌, ◌||◌, List, [], ◌∷◌, length, codes, ◌==◌, ◌≢◌, nat_le}
+use Rattle.std.specs.List.{list_all}
+use Rattle.std.specs.Prelude.{◌≡◌, ℕ, ◌≤◌, Bool, true, ◌&&◌, ◌||◌, List, length, codes, ◌==◌, ◌≢◌, nat_le}
 
 -- Whether a byte is a letter, a digit, '-', '.' or '_'.
 abbrev pub name_byte : ℕ → Bool
@@ -7,8 +8,7 @@ name_byte c = (nat_le 48 c && nat_le c 57) || ((nat_le 65 c && nat_le c 90) || (
 
 -- Whether each byte of a text is one of those.
 abbrev pub name_bytes : List ℕ → Bool
-name_bytes [] = true
-name_bytes (c ∷ cs) = name_byte c && name_bytes cs
+name_bytes cs = list_all name_byte cs
 
 -- A text is a base name: 1 to 24 such bytes, but neither "." nor "..".
 abbrev pub GoodBase : List ℕ → Type 0

@@ -12,3 +12,8 @@ store_number OutOfMemory = None
 -- The number of a store that is not empty.
 abbrev pub not_empty_number : {S : Type 0} → NotEmpty S → ℕ
 not_empty_number e = 6
+
+-- Why a store that owns its memory is not made: its shape is not good, or it is and memory is wanting.
+abbrev pub StoreDenied : Type 0 → StoreError → Type 0
+StoreDenied Good BadStore = Good → ⊥
+StoreDenied Good OutOfMemory = Good

@@ -1,5 +1,5 @@
 -- The rule of placing of a store whose memory is cut into equal frames.
-use Rattle.std.specs.Prelude.{◌≡◌, ℕ, ◌*◌, ◌%◌, ◌^◌, ◌<◌, ◌≤◌, cond, Some, None, nat_le}
+use Rattle.std.specs.Prelude.{◌≡◌, ℕ, ◌*◌, ◌%◌, ◌^◌, ◌<◌, ◌≤◌, cond, length, Some, None, nat_le}
 use Rattle.std.specs.Option.{option_map as over}
 use Rattle.shared_memory.specs.declared.table.Place.{Place}
 use Rattle.shared_memory.specs.Extents.{Extent, Extents, Rule, extent_at, first_free}
@@ -23,3 +23,9 @@ Aligned es fs = (h : ℕ) (e : Extent) → extent_at es h ≡ Some e → e.start
 -- No segment is larger than a frame.
 abbrev pub Fitting : Extents → ℕ → Type 0
 Fitting es fs = (h : ℕ) (e : Extent) → extent_at es h ≡ Some e → e.size ≤ fs
+
+-- The segments lie in frames of fs bytes that fill a memory of m bytes.
+pub record Framed (es : Extents) (m fs : ℕ) : Type 0 where
+  pub whole : m ≡ length es * fs
+  pub aligned : Aligned es fs
+  pub fitting : Fitting es fs

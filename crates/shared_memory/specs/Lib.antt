@@ -4,6 +4,7 @@ pub mod Meaning
 pub mod Faults
 pub mod Extents
 pub mod Slots
+pub mod Placings
 pub mod Tables
 pub mod Frames
 pub mod FrameStores
@@ -11,3 +12,8 @@ pub mod Clearings
 pub mod Spans
 pub mod SpanStores
 pub mod Quotas
+pub mod Optional
+pub mod Laying
+pub mod Clearing
+pub mod Framing
+pub mod Spanning

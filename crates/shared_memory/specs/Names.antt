@@ -1,5 +1,5 @@
 -- How segments are named, and that their names are apart.
-use Rattle.std.specs.Prelude.{◌≡◌, ℕ, ◌+◌, ◌/◌, ◌%◌, ◌<◌, ◌≤◌, cond, List, [], ◌∷◌, ◌++◌, length, take, codes, ◌≢◌, nat_lt}
+use Rattle.std.specs.Prelude.{◌≡◌, ℕ, ◌<◌, ◌≤◌, List, ◌++◌, length, codes, decimal, ◌≢◌}
 use Rattle.shared_memory.specs.declared.name.BadName.{BadName}
 use Rattle.shared_memory.specs.declared.name.BaseName.{BaseName}
 use Rattle.shared_memory.specs.declared.name.SegmentName.{SegmentName}
@@ -7,25 +7,17 @@ use Rattle.shared_memory.specs.BaseNames.{GoodBase}
 
 -- The text of a base name.
 abbrev pub text : BaseName → List ℕ
-text b = take b.len b.bytes
+text b = b.text.bytes
 
 -- The text of a segment's name.
 abbrev pub written : SegmentName → List ℕ
-written n = take n.len n.bytes
+written n = n.text.bytes
 
 -- The number of the denial of a base name.
 abbrev pub name_number : BadName → ℕ
 name_number e = 2
 
--- The text of one decimal digit.
-abbrev digit : ℕ → List ℕ
-digit d = (48 + d) ∷ []
-
--- A number below 1000 in decimal, without leading zeros.
-abbrev pub decimal : ℕ → List ℕ
-decimal n = cond (nat_lt n 10) (digit n) (cond (nat_lt n 100) (digit (n / 10) ++ digit (n % 10)) (digit (n / 100) ++ (digit (n / 10 % 10) ++ digit (n % 10))))
-
--- The name of a base's segment of an id.
+-- The name of a base's segment of an id, which is written in decimal without leading zeros.
 abbrev pub segment_name : List ℕ → ℕ → List ℕ
 segment_name base id = base ++ (codes "__" ++ decimal id)
 

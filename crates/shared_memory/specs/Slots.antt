@@ -1,14 +1,18 @@
 -- What the slots and the bytes of a table mean.
-use Rattle.std.specs.Prelude.{ℕ, List, map, None, Option, slice_index_or}
+use Rattle.std.specs.Prelude.{ℕ, List, map, take, None, Option, slice_index_or}
 use Rattle.std.specs.Option.{option_map as over}
 use Rattle.shared_memory.specs.Extents.{Extent, Extents}
 use Rattle.shared_memory.specs.Meaning.{Segment, part}
-use Rattle.shared_memory.specs.Names.{written}
 use Rattle.shared_memory.specs.declared.table.Slot.{Slot}
+use Rattle.shared_memory.specs.declared.table.stored_name.StoredName.{StoredName}
 
--- The text of a slot's name, until that is withdrawn.
+-- The bytes of a name.
+abbrev pub stored : StoredName → List ℕ
+stored n = take n.len n.bytes
+
+-- The bytes of a slot's name, until that is withdrawn.
 abbrev pub name_of : Slot → Option (List ℕ)
-name_of x = over written x.name
+name_of x = over stored x.name
 
 -- The segment that a slot keeps, of whose memory `bytes` are.
 abbrev pub segment : List ℕ → Slot → Segment

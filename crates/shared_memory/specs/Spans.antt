@@ -1,5 +1,5 @@
 -- The rule of placing of a store whose memory is cut into pages.
-use Rattle.std.specs.Prelude.{ℕ, zero, suc, ◌+◌, ◌*◌, ◌/◌, ◌≤◌, Bool, false, cond, ◌&&◌, ◌||◌, Some, None, Option, nat_le}
+use Rattle.std.specs.Prelude.{◌≡◌, ℕ, zero, suc, ◌+◌, ◌*◌, ◌/◌, ◌≤◌, Bool, false, cond, ◌&&◌, ◌||◌, length, Some, None, Option, nat_le}
 use Rattle.std.specs.Option.{option_map as over}
 use Rattle.shared_memory.specs.declared.table.Place.{Place}
 use Rattle.shared_memory.specs.Extents.{Extents, Rule, first_free}
@@ -48,3 +48,7 @@ span_rule pages es size = span_place (first_free es) (first_run es pages (pages_
 -- How many pages a store may have: all together at most 4 GiB.
 abbrev pub GoodPages : ℕ → Type 0
 GoodPages pages = (1 ≤ pages) × (pages * 4096 ≤ 4294967296)
+
+-- The segments lie under 320 handles, in a memory of m bytes that are so many pages.
+abbrev pub Spanned : Extents → ℕ → ℕ → Type 0
+Spanned es m pages = (length es ≡ 320) × (m ≡ pages * 4096)

@@ -1,6 +1,8 @@
 -- What a table of segments means, and what its methods do.
 use Rattle.std.specs.Prelude.{◌≡◌, ℕ, ◌+◌, ◌<◌, ◌≤◌, Bool, true, false, List, length, Some, None, Ok, Err, vec_items, Option, Result, MatchOption, ◌≢◌, slice_set}
-use Rattle.shared_memory.specs.declared.fault.BadHandle.{BadHandle}
+use Rattle.shared_memory.specs.declared.fault.AccessError.{AccessError}
+use Rattle.shared_memory.specs.declared.fault.AccessError.TheVariants.{BadHandle, OutsidePayload}
+use Rattle.shared_memory.specs.declared.fault.BadHandle.{BadHandle as UnknownHandle}
 use Rattle.shared_memory.specs.declared.table.SegmentTable.{SegmentTable}
 use Rattle.shared_memory.specs.declared.table.Slot.{Slot}
 use Rattle.shared_memory.specs.Extents.{Extents, Rule, ruled}
@@ -51,7 +53,7 @@ pub record Relaid (s : SegmentTable) (es : Extents) (t : SegmentTable) : Type 0 
   pub memory : memory t ≡ memory s
 
 -- Where the segments lie once a name or a map was to be taken: as before, but for one that ceased.
-abbrev pub still_laid : Extents → ℕ → Result Bool BadHandle → Extents
+abbrev pub still_laid : Extents → ℕ → Result Bool UnknownHandle → Extents
 still_laid es h (Err e) = es
 still_laid es h (Ok true) = es
 still_laid es h (Ok false) = slice_set es h None
@@ -64,6 +66,9 @@ Follows s h y = (x : Slot) × (slot_at (slots_of s) h ≡ Some x) × (extent y �
 abbrev pub Finds : SegmentTable → List ℕ → Option (ℕ × Slot) → Type 0
 Finds s n r = MatchOption r ((k : ℕ) (x : Slot) → slot_at (slots_of s) k ≡ Some x → name_of x ≢ Some n) (λ f. (slot_at (slots_of s) f.0 ≡ Some f.1) × (name_of f.1 ≡ Some n))
 
--- Where in the memory some bytes of a slot begin, or nothing where they do not lie in its payload.
-abbrev pub Begins : Slot → ℕ → ℕ → Option ℕ → Type 0
-Begins x from len r = MatchOption r (x.size < from + len) (λ at. (from + len ≤ x.size) × (at ≡ x.start + from))
+-- Where in the memory `len` bytes of the slot under h begin, counted from its byte `from` on; nothing stands there, or not
+-- all of them lie in its payload.
+abbrev pub Locates : SegmentTable → ℕ → ℕ → ℕ → Result ℕ AccessError → Type 0
+Locates s h from len (Ok at) = (x : Slot) × (slot_at (slots_of s) h ≡ Some x) × (from + len ≤ x.size) × (at ≡ x.start + from)
+Locates s h from len (Err BadHandle) = slot_at (slots_of s) h ≡ None
+Locates s h from len (Err OutsidePayload) = (x : Slot) × (slot_at (slots_of s) h ≡ Some x) × (x.size < from + len)

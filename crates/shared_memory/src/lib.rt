@@ -9,10 +9,12 @@ use fault::{AccessError, BadHandle, Opened, SharedMemoryCreateError, SharedMemor
 pub mod fault;
 pub mod frame_store;
 pub mod name;
+mod placing;
 pub mod quota_store;
 mod requests;
 pub mod span_store;
 mod table;
+pub mod table_store;
 #[cfg(test)]
 mod tests;
 

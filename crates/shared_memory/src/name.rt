@@ -1,7 +1,7 @@
-ghost use Rattle.std.specs.Prelude.{◌≡◌, ◌≤◌, length, take};
 ghost use Rattle.shared_memory.specs.BaseNames.{GoodBase};
 
-mod stored;
+use arrayvec::ArrayString;
+
 #[cfg(test)]
 mod tests;
 pub mod written;
@@ -9,20 +9,14 @@ pub mod written;
 // A memory's base name: 1 to 24 letters, digits, '-', '.' or '_', but neither "." nor "..".
 #[derive(Clone, Copy)]
 pub struct BaseName {
-    bytes: [u8; 24],
-    len: usize,
-    ghost fits: { len ≤ 24 },
-    ghost whole: { length bytes ≡ 24 },
-    ghost good: { GoodBase (take len bytes) },
+    text: ArrayString<24>,
+    ghost good: { GoodBase text.bytes },
 }
 
-// The name of a segment, in a store or on its way there.
+// The name of a memory's segment.
 #[derive(Clone, Copy)]
 pub struct SegmentName {
-    bytes: [u8; 32],
-    len: usize,
-    ghost fits: { len ≤ 32 },
-    ghost whole: { length bytes ≡ 32 },
+    text: ArrayString<32>,
 }
 
 // A text that is no base name.

@@ -1,16 +1,13 @@
-ghost use Rattle.std.specs.Prelude.{◌≡◌, ◌*◌, length};
-ghost use Rattle.shared_memory.specs.Tables.{memory, extents};
+use crate::table_store::TableStore;
 
-use crate::table::SegmentTable;
-
-pub mod calls;
+mod placing;
 mod start;
 
 // A store whose memory is cut into pages. A segment lies in pages side by side that it shares with no other.
+pub type SpanStore = TableStore<Pages>;
+
+// So many pages.
 #[derive(Drop)]
-pub struct SpanStore {
-    table: SegmentTable,
-    pages: usize,
-    ghost handles: { length (extents table) ≡ 320 },
-    ghost whole: { memory table ≡ pages * 4096 },
+pub struct Pages {
+    count: usize,
 }

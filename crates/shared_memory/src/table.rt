@@ -2,12 +2,13 @@ ghost use Rattle.std.specs.Prelude.{◌^◌, ◌<◌, ◌≤◌, length};
 ghost use Rattle.shared_memory.specs.Extents.{Paged, Within, Disjoint};
 ghost use Rattle.shared_memory.specs.Slots.{extents_in};
 
-use crate::name::SegmentName;
+use stored_name::StoredName;
 
 mod access;
 mod edits;
 mod lookup;
 mod making;
+mod stored_name;
 
 pub(crate) const MAX_HANDLES: usize = 320;
 
@@ -16,7 +17,7 @@ pub(crate) const PAGE: usize = 4096;
 // A segment that stands: its payload are `size` bytes of the memory, from `start` on.
 #[derive(Clone, Copy)]
 pub(crate) struct Slot {
-    name: Option<SegmentName>,
+    name: Option<StoredName>,
     allocator_id: u8,
     start: usize,
     size: usize,

@@ -1,5 +1,4 @@
 use crate::SegmentStore;
-use crate::fault::{AccessError, Opened, SharedMemoryCreateError};
 use crate::frame_store::FrameStore;
 use crate::quota_store::QuotaStore;
 use crate::span_store::SpanStore;
@@ -8,16 +7,9 @@ use std::process::Abort;
 use std::test::Fail;
 
 // The number of a denial, or 0.
-fn unmade(made: Result<Opened, SharedMemoryCreateError>) -> u8 {
-    match made {
+fn number_of<T: Drop, E: Denial + Drop>(answer: Result<T, E>) -> u8 {
+    match answer {
         Ok(_) => 0,
-        Err(error) => error.number(),
-    }
-}
-
-fn untouched(done: Result<(), AccessError>) -> u8 {
-    match done {
-        Ok(()) => 0,
         Err(error) => error.number(),
     }
 }
@@ -29,7 +21,7 @@ fn one_segment_fills_it<S: SegmentStore>(rt: &impl Abort, store: &mut S) -> Resu
     let log = store.make(b"log", 4096, 7)?;
     assert!(rt; store.payload_size(log.handle) == Some(4096));
     assert!(rt; !store.is_empty() && !store.has_room(1));
-    assert_eq!(rt; unmade(store.make(b"map", 1, 7)), 26);
+    assert_eq!(rt; number_of(store.make(b"map", 1, 7)), 26);
     assert_eq!(rt; store.withdraw(log.handle)?, false);
     assert!(rt; store.is_empty() && store.has_room(4096));
     Ok(())
@@ -37,16 +29,16 @@ fn one_segment_fills_it<S: SegmentStore>(rt: &impl Abort, store: &mut S) -> Resu
 
 fn one_byte_too_many<S: SegmentStore>(rt: &impl Abort, store: &mut S) {
     assert!(rt; !store.has_room(4097));
-    assert_eq!(rt; unmade(store.make(b"log", 4097, 7)), 26);
+    assert_eq!(rt; number_of(store.make(b"log", 4097, 7)), 26);
     assert!(rt; store.is_empty() && store.has_room(4096));
 }
 
 fn denials_have_an_order<S: SegmentStore>(rt: &impl Abort, store: &mut S) -> Result<(), Fail> {
     let log = store.make(b"log", 4096, 7)?;
-    assert_eq!(rt; unmade(store.make(b"", 0, 7)), 2);
-    assert_eq!(rt; unmade(store.make(&[b'n'; 33], 1, 7)), 2);
-    assert_eq!(rt; unmade(store.make(b"log", 0, 7)), 25);
-    assert_eq!(rt; unmade(store.make(b"log", 1, 7)), 24);
+    assert_eq!(rt; number_of(store.make(b"", 0, 7)), 2);
+    assert_eq!(rt; number_of(store.make(&[b'n'; 33], 1, 7)), 2);
+    assert_eq!(rt; number_of(store.make(b"log", 0, 7)), 25);
+    assert_eq!(rt; number_of(store.make(b"log", 1, 7)), 24);
     assert_eq!(rt; store.withdraw(log.handle)?, false);
     Ok(())
 }
@@ -81,11 +73,11 @@ fn writes_end_with_the_payload<S: SegmentStore>(
     store: &mut S,
 ) -> Result<(), Fail> {
     let log = store.make(b"log", 10, 7)?;
-    assert_eq!(rt; untouched(store.write(log.handle, 8, b"xy")), 0);
-    assert_eq!(rt; untouched(store.write(log.handle, 9, b"xy")), 5);
-    assert_eq!(rt; untouched(store.write(log.handle, u64::MAX, b"xy")), 5);
+    assert_eq!(rt; number_of(store.write(log.handle, 8, b"xy")), 0);
+    assert_eq!(rt; number_of(store.write(log.handle, 9, b"xy")), 5);
+    assert_eq!(rt; number_of(store.write(log.handle, u64::MAX, b"xy")), 5);
     assert_eq!(rt; store.withdraw(log.handle)?, false);
-    assert_eq!(rt; untouched(store.write(log.handle, 0, b"xy")), 17);
+    assert_eq!(rt; number_of(store.write(log.handle, 0, b"xy")), 17);
     Ok(())
 }
 
@@ -93,11 +85,11 @@ fn reads_end_with_the_payload<S: SegmentStore>(rt: &impl Abort, store: &mut S) -
     let log = store.make(b"log", 10, 7)?;
     store.write(log.handle, 8, b"xy")?;
     let mut buffer = [9; 3];
-    assert_eq!(rt; untouched(store.read(log.handle, 7, &mut buffer)), 0);
+    assert_eq!(rt; number_of(store.read(log.handle, 7, &mut buffer)), 0);
     assert_eq!(rt; buffer, [0, b'x', b'y']);
-    assert_eq!(rt; untouched(store.read(log.handle, 8, &mut buffer)), 5);
-    assert_eq!(rt; untouched(store.read(log.handle, 10, &mut [])), 0);
-    assert_eq!(rt; untouched(store.read(log.handle, 11, &mut [])), 5);
+    assert_eq!(rt; number_of(store.read(log.handle, 8, &mut buffer)), 5);
+    assert_eq!(rt; number_of(store.read(log.handle, 10, &mut [])), 0);
+    assert_eq!(rt; number_of(store.read(log.handle, 11, &mut [])), 5);
     assert_eq!(rt; store.withdraw(log.handle)?, false);
     Ok(())
 }
@@ -168,7 +160,7 @@ fn the_first_free_frame_is_taken(rt: HostRuntime) -> Result<(), Fail> {
     let one = store.make(b"one", 1, 7)?;
     let two = store.make(b"two", 8192, 8)?;
     assert_eq!(rt; two.address, 8192);
-    assert_eq!(rt; unmade(store.make(b"three", 1, 7)), 26);
+    assert_eq!(rt; number_of(store.make(b"three", 1, 7)), 26);
     assert_eq!(rt; store.withdraw(one.handle)?, false);
     assert_eq!(rt; store.make(b"three", 8192, 7)?.address, 0);
     Ok(())
@@ -207,7 +199,7 @@ fn a_quota_is_met_exactly(rt: HostRuntime) -> Result<(), Fail> {
     };
     let log = store.make(b"log", 60, 7)?;
     assert!(rt; store.has_room(40) && !store.has_room(41));
-    assert_eq!(rt; unmade(store.make(b"map", 41, 7)), 26);
+    assert_eq!(rt; number_of(store.make(b"map", 41, 7)), 26);
     store.make(b"map", 40, 7)?;
     assert!(rt; store.has_room(0) && !store.has_room(1));
     assert_eq!(rt; store.withdraw(log.handle)?, false);

@@ -6,7 +6,7 @@ use crate::SegmentStore;
 use crate::fault::{
     AccessError, BadHandle, NotEmpty, Opened, SharedMemoryCreateError, SharedMemoryOpenError,
 };
-use crate::requests::refusal;
+use crate::requests::check_request;
 use crate::table::MAX_HANDLES;
 
 impl<S: SegmentStore> QuotaStore<S> {
@@ -53,9 +53,7 @@ impl<S: SegmentStore> SegmentStore for QuotaStore<S> {
         if self.is_within(size) {
             return self.below.make(name, size, allocator_id);
         }
-        if let Some(error) = refusal(name, size, self.below.is_named(name)) {
-            return Err(error);
-        }
+        check_request(name, size, self.below.is_named(name))?;
         Err(SharedMemoryCreateError::InternalError)
     }
 

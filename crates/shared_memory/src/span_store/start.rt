@@ -1,6 +1,9 @@
-ghost use Rattle.shared_memory.specs.SpanStores.{SpansStart};
+ghost use Rattle.std.specs.Prelude.{MatchResult};
+ghost use Rattle.shared_memory.specs.Faults.{StoreDenied};
+ghost use Rattle.shared_memory.specs.SpanStores.{NewSpans};
+ghost use Rattle.shared_memory.specs.Spans.{GoodPages};
 
-use super::SpanStore;
+use super::{Pages, SpanStore};
 use crate::fault::StoreError;
 use crate::table::{MAX_HANDLES, PAGE, SegmentTable};
 use std::alloc::Global;
@@ -10,12 +13,15 @@ const MAX_PAGES: usize = 1_048_576;
 
 impl SpanStore {
     pub fn new(heap: Global, pages: usize) -> Result<SpanStore, StoreError>
-        ensures { SpansStart pages result }
+        ensures { MatchResult result (λ s. NewSpans pages s.placing.count s.table) (StoreDenied (GoodPages pages)) }
     {
         if pages == 0 || pages > MAX_PAGES {
             return Err(StoreError::BadStore);
         }
         let table = SegmentTable::new(heap, MAX_HANDLES, pages * PAGE)?;
-        Ok(SpanStore { table, pages })
+        Ok(SpanStore {
+            table,
+            placing: Pages { count: pages },
+        })
     }
 }

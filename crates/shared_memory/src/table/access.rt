@@ -1,10 +1,9 @@
-ghost use Rattle.std.specs.Prelude.{◌≡◌, ◌+◌, ◌≤◌, length, replicate, Some};
+ghost use Rattle.std.specs.Prelude.{◌≡◌, ◌+◌, ◌≤◌, length, replicate};
 ghost use Rattle.shared_memory.specs.Extents.{Rule};
 ghost use Rattle.shared_memory.specs.Meaning.{Reads, Writes, part, patched};
-ghost use Rattle.shared_memory.specs.Slots.{slot_at};
-ghost use Rattle.shared_memory.specs.Tables.{slots_of, memory, extents, under, Begins, Patches, Relaid};
+ghost use Rattle.shared_memory.specs.Tables.{memory, extents, under, Locates, Patches, Relaid};
 
-use super::{SegmentTable, Slot};
+use super::SegmentTable;
 use crate::fault::AccessError;
 
 // Writes the bytes over those that stand from a place on.
@@ -33,16 +32,16 @@ fn copy_out(all: &[u8], at: usize, buffer: &mut [u8])
 }
 
 impl SegmentTable {
-    // Where `len` bytes of a segment begin, counted from its byte `from` on, if they lie in it.
-    fn place(&self, handle: u16, slot: &Slot, from: u64, len: usize) -> Option<usize>
-        requires { slot_at (slots_of self.now) handle ≡ Some slot.now }
-        ensures { Begins slot.now from len result }
+    // Where in the memory `len` bytes begin, counted from the byte `from` of a segment on.
+    fn locate(&self, handle: u16, from: u64, len: usize) -> Result<usize, AccessError>
+        ensures { Locates self.now handle from len result }
     {
+        let slot = self.slot(handle).ok_or(AccessError::BadHandle)?;
         let from = from as usize;
         if len > slot.size || from > slot.size - len {
-            return None;
+            return Err(AccessError::OutsidePayload);
         }
-        Some(slot.start + from)
+        Ok(slot.start + from)
     }
 
     fn overwrite(&mut self, at: usize, bytes: &[u8])
@@ -62,12 +61,7 @@ impl SegmentTable {
     pub(crate) fn read(&self, handle: u16, from: u64, buffer: &mut [u8]) -> Result<(), AccessError>
         ensures { (rule : Rule) → Reads (under rule self.now) handle from buffer.old result buffer.new }
     {
-        let Some(slot) = self.slot(handle) else {
-            return Err(AccessError::BadHandle);
-        };
-        let Some(at) = self.place(handle, &slot, from, buffer.len()) else {
-            return Err(AccessError::OutsidePayload);
-        };
+        let at = self.locate(handle, from, buffer.len())?;
         copy_out(self.bytes.as_slice(), at, buffer);
         Ok(())
     }
@@ -76,12 +70,7 @@ impl SegmentTable {
         ensures does { (rule : Rule) → Writes (under rule self.old) handle from bytes.now result (under rule self.new) }
         ensures relaid { Relaid self.old (extents self.old) self.new }
     {
-        let Some(slot) = self.slot(handle) else {
-            return Err(AccessError::BadHandle);
-        };
-        let Some(at) = self.place(handle, &slot, from, bytes.len()) else {
-            return Err(AccessError::OutsidePayload);
-        };
+        let at = self.locate(handle, from, bytes.len())?;
         self.overwrite(at, bytes);
         Ok(())
     }

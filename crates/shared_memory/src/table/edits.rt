@@ -39,13 +39,11 @@ impl SegmentTable {
         if !is_good_name(name) {
             return Err(SharedMemoryOpenError::BadName);
         }
-        let Some((handle, slot)) = self.find(name) else {
-            return Err(SharedMemoryOpenError::DoesNotExist);
-        };
-        if slot.maps == u16::MAX {
-            return Err(SharedMemoryOpenError::InternalError);
-        }
-        let maps = slot.maps + 1;
+        let (handle, slot) = self.find(name).ok_or(SharedMemoryOpenError::DoesNotExist)?;
+        let maps = slot
+            .maps
+            .checked_add(1)
+            .ok_or(SharedMemoryOpenError::InternalError)?;
         self.put(handle, Some(Slot { maps, ..slot }));
         Ok(Opened {
             handle,
@@ -58,9 +56,7 @@ impl SegmentTable {
         ensures does { (rule : Rule) → Monotone rule → Withdraws (under rule self.old) handle result (under rule self.new) }
         ensures relaid { Relaid self.old (still_laid (extents self.old) handle result) self.new }
     {
-        let Some(slot) = self.slot(handle) else {
-            return Err(BadHandle);
-        };
+        let slot = self.slot(handle).ok_or(BadHandle)?;
         if slot.name.is_none() {
             return Err(BadHandle);
         }
@@ -79,13 +75,8 @@ impl SegmentTable {
         ensures does { (rule : Rule) → Monotone rule → Closes (under rule self.old) handle result (under rule self.new) }
         ensures relaid { Relaid self.old (still_laid (extents self.old) handle result) self.new }
     {
-        let Some(slot) = self.slot(handle) else {
-            return Err(BadHandle);
-        };
-        if slot.maps == 0 {
-            return Err(BadHandle);
-        }
-        let maps = slot.maps - 1;
+        let slot = self.slot(handle).ok_or(BadHandle)?;
+        let maps = slot.maps.checked_sub(1).ok_or(BadHandle)?;
         Ok(self.settle(handle, Slot { maps, ..slot }))
     }
 }

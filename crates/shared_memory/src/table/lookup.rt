@@ -3,7 +3,8 @@ ghost use Rattle.shared_memory.specs.Extents.{Rule, first_free};
 ghost use Rattle.shared_memory.specs.Meaning.{Named, Empty, size_at};
 ghost use Rattle.shared_memory.specs.Slots.{name_of, slot_at};
 ghost use Rattle.shared_memory.specs.Tables.{slots_of, extents, under, Finds};
-ghost use Rattle.std.specs.Prelude.{◌≡◌, length, Some, Decides, MatchBool};
+ghost use Rattle.std.specs.Prelude.{◌≡◌, Some, is_none, Decides, MatchBool};
+ghost use Rattle.std.specs.List.{position, list_all};
 
 use super::{SegmentTable, Slot};
 
@@ -18,35 +19,35 @@ impl Slot {
     }
 }
 
+fn first_vacant(slots: &[Option<Slot>]) -> Option<usize>
+    ensures { result ≡ position is_none slots.now }
+{
+    slots.iter().position(Option::is_none)
+}
+
+fn all_vacant(slots: &[Option<Slot>]) -> bool
+    ensures { result ≡ list_all is_none slots.now }
+{
+    slots.iter().all(Option::is_none)
+}
+
 // Questions, which change nothing.
 impl SegmentTable {
-    // How many handles there are.
-    fn handles(&self) -> u16
-        ensures { result ≡ length (slots_of self.now) }
-    {
-        self.slots.len() as u16
-    }
-
     // What stands under a handle.
     pub(super) fn slot(&self, handle: u16) -> Option<Slot>
         ensures { result ≡ slot_at (slots_of self.now) handle }
     {
-        let i = handle as usize;
-        if i < self.slots.len() {
-            self.slots[i]
-        } else {
-            None
-        }
+        self.slots.get(handle as usize).copied().flatten()
     }
 
     // The segment of a name, with its handle.
     pub(super) fn find(&self, name: &[u8]) -> Option<(u16, Slot)>
         ensures { Finds self.now name.now result }
     {
-        for handle in 0..self.handles() {
-            if let Some(slot) = self.slot(handle) {
+        for (handle, slot) in self.slots.iter().enumerate() {
+            if let Some(slot) = slot {
                 if slot.is_named(name) {
-                    return Some((handle, slot));
+                    return Some((handle as u16, *slot));
                 }
             }
         }
@@ -57,20 +58,16 @@ impl SegmentTable {
     pub(crate) fn vacancy(&self) -> Option<u16>
         ensures { result ≡ first_free (extents self.now) }
     {
-        for handle in 0..self.handles() {
-            if self.slot(handle).is_none() {
-                return Some(handle);
-            }
-        }
-        None
+        let handle = first_vacant(&self.slots)?;
+        Some(handle as u16)
     }
 
     // The end of a segment that has one of the bytes from `from` on and before `to`.
     pub(crate) fn blocker(&self, from: usize, to: usize) -> Option<usize>
         ensures { Blocks (extents self.now) from to result }
     {
-        for handle in 0..self.handles() {
-            if let Some(slot) = self.slot(handle) {
+        for slot in &self.slots {
+            if let Some(slot) = slot {
                 let end = slot.start + slot.size;
                 if slot.start < to && from < end {
                     return Some(end);
@@ -89,20 +86,13 @@ impl SegmentTable {
     pub(crate) fn payload_size(&self, handle: u16) -> Option<u64>
         ensures { (rule : Rule) → result ≡ size_at (under rule self.now) handle }
     {
-        match self.slot(handle) {
-            Some(slot) => Some(slot.size as u64),
-            None => None,
-        }
+        let slot = self.slot(handle)?;
+        Some(slot.size as u64)
     }
 
     pub(crate) fn is_empty(&self) -> bool
         ensures { (rule : Rule) → MatchBool result (Empty (under rule self.now)) (Empty (under rule self.now) → ⊥) }
     {
-        for handle in 0..self.handles() {
-            if self.slot(handle).is_some() {
-                return false;
-            }
-        }
-        true
+        all_vacant(&self.slots)
     }
 }

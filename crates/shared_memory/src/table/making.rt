@@ -3,9 +3,9 @@ ghost use Rattle.shared_memory.specs.Extents.{Rule, occupied, FreePlace, StillLe
 ghost use Rattle.shared_memory.specs.Meaning.{GoodName, Named, Made};
 ghost use Rattle.shared_memory.specs.Tables.{memory, extents, under, Relaid};
 
+use super::stored_name::StoredName;
 use super::{Place, SegmentTable, Slot};
 use crate::fault::Opened;
-use crate::name::SegmentName;
 use std::alloc::{AllocError, Global};
 
 fn free_handles(heap: Global, handles: usize) -> Result<Vec<Option<Slot>>, AllocError>
@@ -47,7 +47,7 @@ impl SegmentTable {
     {
         self.clear(place.start, size);
         let slot = Slot {
-            name: Some(SegmentName::of(name)),
+            name: Some(StoredName::of(name)),
             allocator_id,
             start: place.start,
             size,

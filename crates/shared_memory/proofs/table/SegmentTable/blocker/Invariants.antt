@@ -4,5 +4,5 @@ use Rattle.shared_memory.specs.Tables.{slots_of}
 use Rattle.shared_memory.specs.declared.table.Slot.{Slot}
 use Rattle.shared_memory.proofs.table.SegmentTable.blocker.Given as goal
 
-abbrev pub invariant-loop-handle : goal.invariant-loop-handle
-invariant-loop-handle l = (k : ℕ) (x : Slot) → k < l.handle → slot_at (slots_of l.self) k ≡ Some x → x.start < l.to → l.from < x.start + x.size → ⊥
+abbrev pub invariant-loop-slot : goal.invariant-loop-slot
+invariant-loop-slot l = (k : ℕ) (x : Slot) → k < l.slot-index → slot_at (slots_of l.self) k ≡ Some x → x.start < l.to → l.from < x.start + x.size → ⊥

@@ -1,11 +1,17 @@
-use Rattle.std.proofs.Common.{sym, ◌∙◌, arith}
-use Rattle.shared_memory.specs.Tables.{slots_of}
-use Rattle.shared_memory.proofs.Optional.{is_none}
-use Rattle.shared_memory.proofs.Slotted.{first_slot, no_slot}
+use Rattle.std.proofs.Common.{◌≡◌, is_none, sym, ap, ◌∙◌}
+use Rattle.std.specs.List.{position}
+use Rattle.shared_memory.specs.Extents.{first_free}
+use Rattle.shared_memory.specs.Tables.{extents, slots_of}
+use Rattle.shared_memory.proofs.Slotted.{vacant_free}
 use Rattle.shared_memory.proofs.table.SegmentTable.vacancy.Goals as goal
+use Rattle.shared_memory.proofs.table.SegmentTable.vacancy.Goals.{After-first_vacant}
 
-pub returns-then-is_none : goal.returns-then-is_none
-returns-then-is_none c = sym (first_slot (slots_of c.args.self.now) c.loop-handle.handle (omega arith) (sym c.slot.ensures ∙ is_none _ c.if-is_none.ensures) c.loop-handle.invariant)
+-- what the search came to is the first free handle
+found : (c : After-first_vacant) → c.first_vacant.result ≡ first_free (extents c.args.self.now)
+found c = c.first_vacant.ensures ∙ ap (position is_none) c.deref.ensures.value ∙ vacant_free (slots_of c.args.self.now)
+
+pub returns-in_err-handle : goal.returns-in_err-handle
+returns-in_err-handle c = c.from_residual.ensures ∙ sym c.in_err-handle.was ∙ c.first_vacant.ensures ∙ ap (position is_none) c.deref.ensures.value ∙ vacant_free (slots_of c.args.self.now)
 
 pub returns : goal.returns
-returns c = sym (no_slot (slots_of c.args.self.now) (λ k lt. c.loop-handle.invariant k (omega arith)))
+returns c = sym c.in_ok-handle.was ∙ c.first_vacant.ensures ∙ ap (position is_none) c.deref.ensures.value ∙ vacant_free (slots_of c.args.self.now)

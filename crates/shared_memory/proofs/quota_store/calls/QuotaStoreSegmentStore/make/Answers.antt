@@ -13,4 +13,4 @@ pub returns : goal.returns
 returns g c =
     let below = g.S.SegmentStore.means c.args.self.now.below in
     let q = c.args.self.now.quota in
-    roomless (limited below q) c.args.name.now c.args.size (c.in_default.ensures (limited below q) c.is_named.ensures) (passes_quota below c.args.size q c.if-is_within.ensures)
+    roomless (limited below q) c.args.name.now c.args.size (c.in_ok-check_request.ensures (limited below q) c.is_named.ensures) (passes_quota below c.args.size q c.if-is_within.ensures)

@@ -1,5 +1,0 @@
-use Rattle.shared_memory.proofs.Framing.{facts_kept}
-use Rattle.shared_memory.proofs.frame_store.calls.FrameStoreSegmentStore.open.Goals as goal
-
-pub invariant_of-self : goal.invariant_of-self
-invariant_of-self c = facts_kept c.args.self.now c.open.new.self c.open.ensures.relaid
