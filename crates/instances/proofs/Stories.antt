@@ -88,8 +88,8 @@ record Takes (way : AllocationStrategy) (m : PoolMemory) (c : Chunk) (n : PoolMe
   asks : Asks layout 24 8
   answer : pool.answer m.allocator layout ≡ start (i * 24)
   granted : Granted pool m layout (i * 24) c n
-  value : c.offset.0 ≡ i * 24 * 256
-  grant : c.grant ≡ g + 1
+  value : c.claim.offset.0 ≡ i * 24 * 256
+  grant : c.claim.grant ≡ g + 1
   stage : Stage way n free (g + 1) (cs ++ (chunk i (g + 1) ∷ []))
 
 takes : {way : AllocationStrategy} {m n : PoolMemory} {s t : Store} {c : Chunk} (i : ℕ) (free : List ℕ) (g : ℕ) (cs : List Entry) → Stage way m (i ∷ free) g cs
@@ -103,9 +103,9 @@ takes {way} {m} {n} {s} {t} {c} i free g cs h x =
     let same : e.0 ≡ c = cc e.1 in
     let G : Granted pool m v (i * 24) c n = subst (λ (z : Chunk). Granted pool m v (i * 24) z n) same e.2 in
     let T = G.tables in
-    let value : c.offset.0 ≡ i * 24 * 256 = omega (arith, T.value, h.first) in
-    let grant : c.grant ≡ g + 1 = omega (arith, T.grant, h.grants) in
-    let one : ◌≡◌ {A = Entry} (record { value = c.offset.0; grant = c.grant; size = v.size }) (record { value = i * 24 * 256; grant = g + 1; size = 24 }) =
+    let value : c.claim.offset.0 ≡ i * 24 * 256 = omega (arith, T.value, h.first) in
+    let grant : c.claim.grant ≡ g + 1 = omega (arith, T.grant, h.grants) in
+    let one : ◌≡◌ {A = Entry} (record { value = c.claim.offset.0; grant = c.claim.grant; size = v.size }) (record { value = i * 24 * 256; grant = g + 1; size = 24 }) =
     λ j. record { value = value j; grant = grant j; size = r.1.size j } in
     record {
       layout = v;
@@ -125,7 +125,7 @@ takes {way} {m} {n} {s} {t} {c} i free g cs h x =
 
 -- After both chunks were taken: the chunks, and that the first one's bucket is taken.
 record Full (way : AllocationStrategy) (c d : Chunk) (m : PoolMemory) : Type 0 where
-  values : (c.offset.0 ≡ 0) × (c.grant ≡ 1) × (d.offset.0 ≡ 24 * 256) × (d.grant ≡ 2)
+  values : (c.claim.offset.0 ≡ 0) × (c.claim.grant ≡ 1) × (d.claim.offset.0 ≡ 24 * 256) × (d.claim.grant ≡ 2)
   stage : Stage way m [] 2 (chunk 0 1 ∷ (chunk 1 2 ∷ []))
   taken : Taken pool m.allocator 0 24
 
@@ -174,7 +174,7 @@ back {way} {c} {d} {m = n} {s = t} o =
     let m = o.full in
     let s = o.in_store in
     let F = full o.both in
-    let x : Deallocates pool 0 c.grant m s (Ok tt) n t = subst (λ (z : ℕ). Deallocates pool z c.grant m s (Ok tt) n t) F.values.0 o.returns in
+    let x : Deallocates pool 0 c.claim.grant m s (Ok tt) n t = subst (λ (z : ℕ). Deallocates pool z c.claim.grant m s (Ok tt) n t) F.values.0 o.returns in
     let y : Deallocates pool 0 1 m s (Ok tt) n t = subst (λ (z : ℕ). Deallocates pool 0 z m s (Ok tt) n t) F.values.1 x in
     back_of F.stage F.taken y
 
@@ -203,7 +203,7 @@ same_buckets a v way h q = record {
 -- A full memory that grows: the new segment has the hinted payload, of which the first bucket is given.
 grows_to : {way : AllocationStrategy} {m n : PoolMemory} {s t : Store} {e : Chunk} (p i : ℕ) (is : List ℕ) → Stage way m [] 2 (chunk 0 1 ∷ (chunk 1 2 ∷ []))
     → ((v : ValidLayout) → Asks v 24 8 → hinted m.allocator v way ≡ p) → p / 24 ≡ i → range_with_len 0 i ≡ 0 ∷ is
-    → Allocates pool asked m s (Ok e) n t → (e.offset.0 ≡ 1) × Payload n t 1 p
+    → Allocates pool asked m s (Ok e) n t → (e.claim.offset.0 ≡ 1) × Payload n t 1 p
 unfolding chunk
 grows_to {way} {m} {n} {s} {t} {e} p i is h hint count list x =
     let r = in_rounds_of x in
@@ -224,9 +224,9 @@ grows_to {way} {m} {n} {s} {t} {e} p i is h hint count list x =
     let second : current k ≡ 1 = D.next ∙ ap (λ (y : ℕ). y + 1) h.first in
     let held : 1 ≤ D.old.count = (let c = ap count_of D.old_there in let d = m.tables.counted (current m) in let f = ap₂ tally h.first h.ledger in omega arith) in
     let stays : u ≡ G.between = elim D.leaves [ inl y ↦ absurd (omega arith) | inr y ↦ y.2 ] in
-    let there : T.there ≡ D.new = (let a = T.was in let b = D.new_there in cc) in
-    let handle : T.counted.handle ≡ G.opened.handle = T.numbers.0 ∙ (ap (λ (y : Place). y.handle) there ∙ D.new_numbers.0) in (
-      ap (λ (y : Chunk). y.offset.0) (sym same) ∙ (T.value ∙ ap (packed 0) second),
+    let there : T.there ≡ G.place = (let a = T.was in let b = D.new_there in cc) in
+    let handle : T.counted.handle ≡ G.opened.handle = T.numbers.0 ∙ (ap (λ (y : Place). y.handle) there ∙ G.numbers.0) in (
+      ap (λ (y : Chunk). y.claim.offset.0) (sym same) ∙ (T.value ∙ ap (packed 0) second),
       record {
         there = T.counted;
         mapped = ap (place n) (sym second) ∙ T.is_counted;

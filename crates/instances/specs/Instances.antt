@@ -44,7 +44,7 @@ pub record OneBack (way : AllocationStrategy) (c d : Chunk) (n : PoolMemory) (t 
   pub full : PoolMemory
   pub in_store : Store
   pub both : BothTaken way c d full in_store
-  pub returns : Deallocates pool c.offset.0 c.grant full in_store (Ok tt) n t
+  pub returns : Deallocates pool c.claim.offset.0 c.claim.grant full in_store (Ok tt) n t
 
 -- The segment of the id k has a payload of p bytes.
 pub record Payload (m : PoolMemory) (s : Store) (k p : ℕ) : Type 0 where
@@ -67,13 +67,13 @@ pub record Instances : Type 0 where
   pub allocators : allocators.Instances
   -- the two chunks have the values 0 and 24 × 256, and the grants 1 and 2
   pub values : (way : AllocationStrategy) (c d : Chunk) (m : PoolMemory) (s : Store) → BothTaken way c d m s
-      → (c.offset.0 ≡ 0) × (c.grant ≡ 1) × (d.offset.0 ≡ 24 * 256) × (d.grant ≡ 2)
+      → (c.claim.offset.0 ≡ 0) × (c.claim.grant ≡ 1) × (d.claim.offset.0 ≡ 24 * 256) × (d.claim.grant ≡ 2)
   -- the return of the first is accepted
   pub returned : (way : AllocationStrategy) (c d : Chunk) (m n : PoolMemory) (s t : Store) (r : Result (Unit {0}) NotHeld) → BothTaken way c d m s
       → Deallocates pool 0 1 m s r n t → r ≡ Ok tt
   -- after it the next chunk has the value 0 again
   pub again : (way : AllocationStrategy) (c d e : Chunk) (m n : PoolMemory) (s t : Store) → OneBack way c d m s
-      → Allocates pool asked m s (Ok e) n t → e.offset.0 ≡ 0
+      → Allocates pool asked m s (Ok e) n t → e.claim.offset.0 ≡ 0
   -- and returning grant 1 again is denied by 11, before the bucket went to somebody else and after
   pub twice : (way : AllocationStrategy) (c d : Chunk) (m n : PoolMemory) (s t : Store) (r : Result (Unit {0}) NotHeld) → OneBack way c d m s
       → Deallocates pool 0 1 m s r n t → NotHeldAnswer r
@@ -81,9 +81,9 @@ pub record Instances : Type 0 where
       → Allocates pool asked m s (Ok e) n t → Deallocates pool 0 1 n t r k u → NotHeldAnswer r
   -- with both held, a further chunk makes a segment of 72 or 96 bytes and has the value 1, or is denied by 20
   pub best_fit : (c d e : Chunk) (m n : PoolMemory) (s t : Store) → BothTaken BestFit c d m s
-      → Allocates pool asked m s (Ok e) n t → (e.offset.0 ≡ 1) × Payload n t 1 72
+      → Allocates pool asked m s (Ok e) n t → (e.claim.offset.0 ≡ 1) × Payload n t 1 72
   pub power_of_two : (c d e : Chunk) (m n : PoolMemory) (s t : Store) → BothTaken PowerOfTwo c d m s
-      → Allocates pool asked m s (Ok e) n t → (e.offset.0 ≡ 1) × Payload n t 1 96
+      → Allocates pool asked m s (Ok e) n t → (e.claim.offset.0 ≡ 1) × Payload n t 1 96
   pub static : (c d : Chunk) (m n : PoolMemory) (s t : Store) (r : Result Chunk ResizableShmAllocationError) → BothTaken Static c d m s
       → Allocates pool asked m s r n t → DeniedBy 20 r
   -- with the current id 255, a growth is denied by 23

@@ -1,5 +1,4 @@
-use crate::memories::{frames, holdings, layout, memory};
-use pointer_offset::Denial;
+use crate::memories::{frames, holdings, layout, memory, number_of};
 use resizable_shared_memory::builder::DynamicMemoryBuilder;
 use resizable_shared_memory::memory::DynamicMemory;
 use shared_memory::SegmentStore;
@@ -9,29 +8,26 @@ use shm_allocator::{AllocationStrategy, ShmAllocator};
 use std::test::Fail;
 
 // The number of the denial of a creation, or 0.
-fn denial_of_create(builder: DynamicMemoryBuilder<'_>, store: &mut FrameStore) -> u8 {
-    match builder.create::<PoolAllocator, FrameStore>(store) {
-        Ok(_) => 0,
-        Err(error) => error.number(),
-    }
+fn creation(builder: DynamicMemoryBuilder<'_>, store: &mut FrameStore) -> u8 {
+    number_of(builder.create::<PoolAllocator, FrameStore>(store))
 }
 
 #[test]
 fn denials_come_in_order(rt: HostRuntime) -> Result<(), Fail> {
     let mut store = frames(rt.alloc(), 3)?;
     let nameless = DynamicMemoryBuilder::new(b".").max_chunk_layout_hint(layout(0, 1));
-    assert_eq!(rt; denial_of_create(nameless, &mut store), 2);
+    assert_eq!(rt; creation(nameless, &mut store), 2);
     let bad = holdings(layout(0, 1), 1, AllocationStrategy::Static);
-    assert_eq!(rt; denial_of_create(bad, &mut store), 1);
+    assert_eq!(rt; creation(bad, &mut store), 1);
     let empty = holdings(layout(1, 1), 0, AllocationStrategy::Static);
-    assert_eq!(rt; denial_of_create(empty, &mut store), 25);
+    assert_eq!(rt; creation(empty, &mut store), 25);
     let large = holdings(layout(4096, 1), 2, AllocationStrategy::Static);
-    assert_eq!(rt; denial_of_create(large, &mut store), 26);
+    assert_eq!(rt; creation(large, &mut store), 26);
     assert!(rt; store.is_empty());
     let least = DynamicMemoryBuilder::new(b"holdings");
-    assert_eq!(rt; denial_of_create(least, &mut store), 0);
+    assert_eq!(rt; creation(least, &mut store), 0);
     let again = DynamicMemoryBuilder::new(b"holdings");
-    assert_eq!(rt; denial_of_create(again, &mut store), 24);
+    assert_eq!(rt; creation(again, &mut store), 24);
     Ok(())
 }
 

@@ -1,4 +1,4 @@
-use crate::memories::{denial, frames, holdings, layout, memory};
+use crate::memories::{frames, holdings, layout, memory, number_of};
 use pointer_offset::SegmentId;
 use resizable_shared_memory::memory::DynamicMemory;
 use shared_memory::SegmentStore;
@@ -15,13 +15,13 @@ fn a_full_pool_grows(rt: HostRuntime) -> Result<(), Fail> {
     let first = memory.allocate(&mut store, layout(24, 8))?;
     let second = memory.allocate(&mut store, layout(24, 8))?;
     let third = memory.allocate(&mut store, layout(24, 8))?;
-    assert_eq!(rt; third.offset.as_value(), 1);
+    assert_eq!(rt; third.claim.offset.as_value(), 1);
     assert_eq!(rt; store.payload_size(2), Some(72));
     assert_eq!(rt; memory.bucket_size(SegmentId::new(1)), Ok(24));
     assert_eq!(rt; memory.number_of_active_segments(), 2);
-    memory.deallocate(&mut store, first.offset, first.grant)?;
+    memory.deallocate(&mut store, first.claim)?;
     assert_eq!(rt; memory.number_of_active_segments(), 2);
-    memory.deallocate(&mut store, second.offset, second.grant)?;
+    memory.deallocate(&mut store, second.claim)?;
     assert_eq!(rt; memory.number_of_active_segments(), 1);
     assert!(rt; memory.bucket_size(SegmentId::new(0)).is_err());
     Ok(())
@@ -32,9 +32,9 @@ fn a_static_pool_stays(rt: HostRuntime) -> Result<(), Fail> {
     let mut store = frames(rt.alloc(), 4)?;
     let builder = holdings(layout(24, 8), 1, AllocationStrategy::Static);
     let mut memory: DynamicMemory<PoolAllocator> = memory(builder, &mut store)?;
-    assert_eq!(rt; denial(memory.allocate(&mut store, layout(24, 8))), 0);
-    assert_eq!(rt; denial(memory.allocate(&mut store, layout(24, 8))), 20);
-    assert_eq!(rt; denial(memory.allocate(&mut store, layout(0, 8))), 1);
+    assert_eq!(rt; number_of(memory.allocate(&mut store, layout(24, 8))), 0);
+    assert_eq!(rt; number_of(memory.allocate(&mut store, layout(24, 8))), 20);
+    assert_eq!(rt; number_of(memory.allocate(&mut store, layout(0, 8))), 1);
     Ok(())
 }
 
@@ -44,11 +44,11 @@ fn ids_run_out(rt: HostRuntime) -> Result<(), Fail> {
     let mut store = frames(rt.alloc(), 3)?;
     let builder = holdings(layout(1, 1), 1, AllocationStrategy::BestFit);
     let mut memory: DynamicMemory<BumpAllocator> = memory(builder, &mut store)?;
-    assert_eq!(rt; denial(memory.allocate(&mut store, layout(1, 16))), 23);
+    assert_eq!(rt; number_of(memory.allocate(&mut store, layout(1, 16))), 23);
     assert_eq!(rt; memory.number_of_active_segments(), 1);
-    assert_eq!(rt; denial(memory.allocate(&mut store, layout(1, 16))), 23);
+    assert_eq!(rt; number_of(memory.allocate(&mut store, layout(1, 16))), 23);
     let last = memory.allocate(&mut store, layout(1, 1))?;
-    assert_eq!(rt; last.offset.segment_id().value(), 255);
+    assert_eq!(rt; last.claim.offset.segment_id().value(), 255);
     Ok(())
 }
 
@@ -57,8 +57,8 @@ fn no_room_ends_a_growth(rt: HostRuntime) -> Result<(), Fail> {
     let mut store = frames(rt.alloc(), 2)?;
     let builder = holdings(layout(24, 8), 1, AllocationStrategy::PowerOfTwo);
     let mut memory: DynamicMemory<PoolAllocator> = memory(builder, &mut store)?;
-    assert_eq!(rt; denial(memory.allocate(&mut store, layout(24, 8))), 0);
-    assert_eq!(rt; denial(memory.allocate(&mut store, layout(24, 8))), 26);
+    assert_eq!(rt; number_of(memory.allocate(&mut store, layout(24, 8))), 0);
+    assert_eq!(rt; number_of(memory.allocate(&mut store, layout(24, 8))), 26);
     assert_eq!(rt; memory.number_of_active_segments(), 1);
     Ok(())
 }

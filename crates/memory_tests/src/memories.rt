@@ -1,7 +1,6 @@
 use pointer_offset::Denial;
 use resizable_shared_memory::builder::DynamicMemoryBuilder;
-use resizable_shared_memory::fault::ResizableShmAllocationError;
-use resizable_shared_memory::memory::{Chunk, DynamicMemory};
+use resizable_shared_memory::memory::DynamicMemory;
 use shared_memory::frame_store::FrameStore;
 use shm_allocator::layout::Layout;
 use shm_allocator::{AllocationStrategy, ShmAllocator};
@@ -38,7 +37,7 @@ pub fn memory<A: ShmAllocator>(
 }
 
 // The number of a denial, or 0.
-pub fn denial(answer: Result<Chunk, ResizableShmAllocationError>) -> u8 {
+pub fn number_of<T: Drop, E: Denial + Drop>(answer: Result<T, E>) -> u8 {
     match answer {
         Ok(_) => 0,
         Err(error) => error.number(),

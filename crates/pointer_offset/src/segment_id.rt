@@ -4,7 +4,7 @@ ghost use Rattle.pointer_offset.specs.Packing.{max_id};
 ghost use Rattle.std.specs.Prelude.{◌≡◌};
 
 // Which segment of a memory is meant.
-#[derive(Clone, Copy, PartialEq, Eq, Debug)]
+#[derive(Clone, Copy, PartialEq, Eq, Debug, Default)]
 pub struct SegmentId(u8);
 
 impl SegmentId {

@@ -46,6 +46,7 @@ pub joined : {A C : Type 0} (α : Meaning A C) (x : CreationRecord C) (m : Dynam
 joined {A} {C} α x m becomes n l count way s t (v, o, q, both, noted) =
     let h = α.initial v count in
     let begins = becomes.tables in
+    let numbers = becomes.numbers in
     let possible = subst₂ (λ (c : C) (p : ℕ). α.possible c p ≡ true) (sym noted.config) (sym noted.payload) both.first.1 in (
       v,
       o,
@@ -53,14 +54,14 @@ joined {A} {C} α x m becomes n l count way s t (v, o, q, both, noted) =
       both,
       record {
         fresh = subst₂ (λ (c : C) (p : ℕ). α.fresh c p m.allocator) noted.config noted.payload (becomes.fresh possible);
+        place = becomes.place;
+        numbers = (numbers.0 ∙ ap (λ (p : Opened). p.handle) noted.segment, numbers.1 ∙ ap (λ (p : Opened). p.address) noted.segment, numbers.2, numbers.3);
         tables = record {
           name_is = begins.name_is ∙ noted.name;
           strategy = begins.strategy ∙ noted.strategy;
           management_is = begins.management_is ∙ noted.management;
           first = begins.first;
-          there = begins.there;
           is = begins.is;
-          numbers = (begins.numbers.0 ∙ ap (λ (p : Opened). p.handle) noted.segment, begins.numbers.1 ∙ ap (λ (p : Opened). p.address) noted.segment, begins.numbers.2, begins.numbers.3);
           others = begins.others;
           none_held = begins.none_held;
           none_given = begins.none_given;

@@ -1,4 +1,3 @@
-mod Shifting
 mod Listing
 mod Searching
 mod Counting

@@ -1,42 +1,23 @@
 -- The entries of a ledger: how many, which, and what a push and a removal make of them.
-use Rattle.std.proofs.Common.{◌≡◌, ℕ, suc, ◌+◌, ◌-◌, ◌<◌, ◌≤◌, List, [], ◌∷◌, ◌++◌, map, length, get_or, take, drop, set, sym, ap, ◌∙◌, subst, ap₂, ⊎_elim, arith, length-take}
+use Rattle.std.proofs.Common.{◌≡◌, ℕ, suc, ◌+◌, ◌<◌, ◌≤◌, List, [], ◌∷◌, ◌++◌, map, length, get_or, take, drop, sym, ap, ◌∙◌, subst, ap₂, ⊎_elim, arith}
 use mathlib.Core.List.{map-append}
-use lib.ListN.{length-map}
 use Rattle.std.proofs.lemmas.List.Edits.{length-remove, get_or-remove_below, get_or-remove_above}
-use Rattle.std.proofs.lemmas.List.{get_or_append_left, get_or-map, get_or_push, get_or-take, length_push, map_push, take-map, drop-map, take_more_set}
+use Rattle.std.proofs.lemmas.List.{get_or_append_left, get_or-map, get_or_push, length-map, length_push, take-map, drop-map}
 use Rattle.std.proofs.lemmas.Bool.{cases_lt}
 use Rattle.std.specs.List.{remove}
-use Rattle.resizable_shared_memory.specs.Entries.{Entry, entry, entries_in, entry_at, no_entry, Rises}
+use Rattle.resizable_shared_memory.specs.Entries.{Entry, entry, entry_at, no_entry, Rises}
 use Rattle.resizable_shared_memory.specs.declared.ledger.Held.{Held}
 use Rattle.resizable_shared_memory.specs.declared.ledger.Ledger.{Ledger}
 use Rattle.resizable_shared_memory.specs.Ledgers.{entries_of}
 
-pub length_entries : (cs : List Held) (n : ℕ) → n ≤ length cs → length (entries_in cs n) ≡ n
-length_entries cs n fits = simp (length-map, length-take) (omega arith)
+pub length_of : (l : Ledger) → length (entries_of l) ≡ length l.entries.items
+length_of l = length-map l.entries.items entry
 
--- What is read past the end of an array of held chunks.
-abbrev pub blank : Held
-blank = record { segment = record { 0 = 0 }; start = 0; grant = 0; size = 0 }
+pub entry_of : (l : Ledger) (i : ℕ) (d : Held) → i < length l.entries.items → entry_at (entries_of l) i ≡ entry (get_or l.entries.items i d)
+entry_of l i d below = get_or-map entry l.entries.items i d no_entry below
 
-pub entry_here : (cs : List Held) (n i : ℕ) → i < n → n ≤ length cs → entry_at (entries_in cs n) i ≡ entry (get_or cs i blank)
-entry_here cs n i below fits =
-    let within : i < length (take n cs) = simp length-take (omega arith) in
-    get_or-map entry (take n cs) i blank no_entry within ∙ ap entry (get_or-take n cs i blank below)
-
-pub length_of : (l : Ledger) → length (entries_of l) ≡ l.len
-length_of l = length_entries l.entries l.len (omega arith)
-
-pub entry_of : (l : Ledger) (i : ℕ) → i < l.len → entry_at (entries_of l) i ≡ entry (get_or l.entries i blank)
-entry_of l i below = entry_here l.entries l.len i below (omega arith)
-
-pub entries_push : (cs : List Held) (n : ℕ) (c : Held) → n < length cs → entries_in (set cs n c) (n + 1) ≡ entries_in cs n ++ (entry c ∷ [])
-entries_push cs n c within = ap (map entry) (take_more_set cs n c within) ∙ map_push entry (take n cs) c
-
-pub entries_removed : (cs ds : List Held) (n at : ℕ) → take (n - 1) ds ≡ remove (take n cs) at → entries_in ds (n - 1) ≡ remove (entries_in cs n) at
-entries_removed cs ds n at moved =
-    ap (map entry) moved
-    ∙ (map-append entry (take at (take n cs)) (drop (suc at) (take n cs))
-    ∙ ap₂ ◌++◌ (sym (take-map entry at (take n cs))) (sym (drop-map entry (suc at) (take n cs))))
+pub entries_removed : (cs : List Held) (at : ℕ) → map entry (remove cs at) ≡ remove (map entry cs) at
+entries_removed cs at = map-append entry (take at cs) (drop (suc at) cs) ∙ ap₂ ◌++◌ (sym (take-map entry at cs)) (sym (drop-map entry (suc at) cs))
 
 -- What holds of each entry.
 abbrev pub Each : (Entry → Type 0) → List Entry → Type 0

@@ -1,18 +1,50 @@
 -- The search for an entry by its grant, where grants rise, and what it says of `find` and `without`.
-use Rattle.std.proofs.Common.{◌≡◌, ℕ, zero, suc, ◌+◌, ◌<◌, ◌≤◌, true, false, eqb, List, [], ◌∷◌, length, Some, None, sym, refl, ap, ◌∙◌, ⊎_elim, arith}
+use Rattle.std.proofs.Common.{◌≡◌, ℕ, zero, suc, ◌<◌, ◌≤◌, true, false, eqb, List, [], ◌∷◌, map, length, get_or, Some, None, Ok, Err, Result, sym, refl, ap, ◌∙◌, ⊎_elim, arith}
+use Rattle.std.specs.Option.{MatchOption}
+use Rattle.std.specs.Result.{result_ok}
+use Rattle.std.specs.declared.cmp.Ordering.TheVariants.{Less, Equal, Greater}
+use Rattle.std.specs.Ordering.{ordering_index, nat_cmp}
+use Rattle.std.specs.List.Sorted.{IsBinarySearchResult, IsSearchInRange}
+use Rattle.std.proofs.lemmas.Cmp.{ranked}
+use Rattle.std.proofs.lemmas.List.{get_or-map, length-map}
+use Rattle.std.proofs.lemmas.Bool.Decides.{nat_tests}
 use Rattle.std.proofs.lemmas.Bool.{cases_lt, cases_order, cond-true, cond-false, and_from, and_left, and_right, eq-eqb, ne_eqb}
 use Rattle.std.specs.List.{remove}
-use Rattle.resizable_shared_memory.specs.Entries.{Entry, entry_at, Rises, matches, find, without}
+use Rattle.resizable_shared_memory.specs.declared.ledger.Held.{Held}
+use Rattle.resizable_shared_memory.specs.Entries.{Entry, entry, no_entry, entry_at, Rises, matches, find, without}
 
--- Each half that a look passes over holds no entry of the grant g.
-module _ (es : List Entry) (rises : Rises es) (g m : ℕ) (within : m < length es) where
-  pub lower_half : (entry_at es m).grant < g → (j : ℕ) → j < m + 1 → (entry_at es j).grant < g
-  lower_half less j h =
-      ⊎_elim (λ (lt : j < m). omega (arith, rises j m (lt, within))) (λ (ge : m ≤ j). let e : m ≡ j = omega arith in omega (arith, ap (λ k. (entry_at es k).grant) e)) (cases_lt j m)
+-- What is read past the end of some held chunks.
+abbrev blank : Held
+blank = record { segment = record { 0 = 0 }; start = 0; grant = 0; size = 0 }
 
-  pub upper_half : g < (entry_at es m).grant → (j : ℕ) → m ≤ j → j < length es → g < (entry_at es j).grant
-  upper_half more j le h =
-      ⊎_elim (λ (lt : m < j). omega (arith, rises m j (lt, h))) (λ (ge : j ≤ m). let e : m ≡ j = omega arith in omega (arith, ap (λ k. (entry_at es k).grant) e)) (cases_lt m j)
+-- What a binary search by grants, which rise, comes to.
+module _ (cs : List Held) (g : ℕ) (rises : Rises (map entry cs)) where
+  grant_at : (i : ℕ) (d : Held) → i < length cs → (entry_at (map entry cs) i).grant ≡ (get_or cs i d).grant
+  grant_at i d h = ap (λ (e : Entry). e.grant) (get_or-map entry cs i d no_entry h)
+
+  up : (i j : ℕ) (d : Held) → i ≤ j → j < length cs → (get_or cs i d).grant ≤ (get_or cs j d).grant
+  up i j d le h =
+      ⊎_elim
+      (λ (lt : i < j). omega (arith, rises i j (lt, omega (arith, length-map cs entry)), grant_at i d (omega arith), grant_at j d h))
+      (λ (ge : j ≤ i). let e : i ≡ j = omega arith in omega (arith, ap (λ (k : ℕ). (get_or cs k d).grant) e))
+      (cases_lt i j)
+
+  higher : (a b : ℕ) → a ≤ b → ordering_index (nat_cmp a g) ≤ ordering_index (nat_cmp b g)
+  higher a b le = grind (arith, nat_tests)
+
+  pub position_of : (r : Result ℕ ℕ) → IsSearchInRange r (length cs) → IsBinarySearchResult (λ (h : Held). nat_cmp h.grant g) cs r
+      → MatchOption (result_ok r) ((j : ℕ) → j < length (map entry cs) → (entry_at (map entry cs) j).grant ≡ g → ⊥) (λ i. (i < length (map entry cs)) × ((entry_at (map entry cs) i).grant ≡ g))
+  position_of (Ok i) bound h =
+      let d = blank in
+      (omega (arith, bound, length-map cs entry), grant_at i d bound ∙ ranked (get_or cs i d).grant g Equal (sym (h d)))
+  position_of (Err i) bound h = λ j lt e.
+      let d = blank in
+      let within : j < length cs = omega (arith, length-map cs entry) in
+      let parted = h (λ a b d le l. higher (get_or cs a d).grant (get_or cs b d).grant (up a b d le l)) in
+      ⊎_elim
+      (λ (l : j < i). omega (arith, grant_at j d within, ranked (get_or cs j d).grant g Less (sym (parted.0 j d (omega arith) l))))
+      (λ (l : i ≤ j). omega (arith, grant_at j d within, ranked (get_or cs j d).grant g Greater (sym (parted.1 j d l within))))
+      (cases_lt j i)
 
 -- Grants are apart.
 pub other_grant : (es : List Entry) → Rises es → (i j : ℕ) → i < length es → j < length es → (j ≡ i → ⊥) → (entry_at es j).grant ≡ (entry_at es i).grant → ⊥

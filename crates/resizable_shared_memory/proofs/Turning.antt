@@ -1,11 +1,9 @@
 -- Handles that something is done to in turn.
-use Rattle.std.proofs.Common.{◌≡◌, ℕ, ◌+◌, ◌<◌, ◌≤◌, List, [], ◌∷◌, ◌++◌, length, get_or, drop, Some, None, Option, sym, ap, ◌∙◌, subst}
+use Rattle.std.proofs.Common.{◌≡◌, ℕ, ◌+◌, ◌<◌, ◌≤◌, List, [], ◌∷◌, ◌++◌, length, get_or, drop, sym, ap, ◌∙◌, subst}
 use Rattle.std.proofs.lemmas.List.{at_drop_more, at_drop_all}
 use Rattle.shared_memory.specs.Meaning.{Store}
-use Rattle.resizable_shared_memory.specs.Places.{handles}
 use Rattle.resizable_shared_memory.specs.Withdrawals.{InTurn}
 use Rattle.resizable_shared_memory.specs.Withdrawals.InTurn.{none_left, next}
-use Rattle.resizable_shared_memory.specs.declared.table.Place.{Place}
 
 module _ (Does : Store → ℕ → Store → Type 0) where
   -- One handle more at the end.
@@ -13,17 +11,12 @@ module _ (Does : Store → ℕ → Store → Type 0) where
   turn_last h u none_left last = next last none_left
   turn_last h u (next first rest) last = next first (turn_last h u rest last)
 
-  -- The places from i on: an empty one is passed over, the handle of a mapped one has its turn.
-  module _ (ps : List (Option Place)) (i : ℕ) (u : Store) where
-    from_here : (o : Option Place) (s : Store) → i < length ps → get_or ps i None ≡ o → InTurn Does (handles (o ∷ drop (i + 1) ps)) s u → InTurn Does (handles (drop i ps)) s u
-    from_here o s within is rest =
-        subst (λ (hs : List ℕ). InTurn Does hs s u) (sym (at_drop_more handles ps i None within ∙ ap (λ (p : Option Place). handles (p ∷ drop (i + 1) ps)) is)) rest
+  -- The handles from i on: the one at hand has its turn, and then the rest.
+  module _ (hs : List ℕ) (i : ℕ) (u : Store) where
+    pub turn_here : (s t : Store) (h : ℕ) → i < length hs → get_or hs i 0 ≡ h → Does s h t → InTurn Does (drop (i + 1) hs) t u → InTurn Does (drop i hs) s u
+    turn_here s t h within is first rest =
+        subst (λ (ks : List ℕ). InTurn Does ks s u) (sym (at_drop_more (λ ks. ks) hs i 0 within ∙ ap (λ (k : ℕ). k ∷ drop (i + 1) hs) is)) (next first rest)
 
-    pub turn_empty : (s : Store) → i < length ps → get_or ps i None ≡ None → InTurn Does (handles (drop (i + 1) ps)) s u → InTurn Does (handles (drop i ps)) s u
-    turn_empty s within is rest = from_here None s within is rest
-
-    pub turn_mapped : (s t : Store) (p : Place) → i < length ps → get_or ps i None ≡ Some p → Does s p.handle t → InTurn Does (handles (drop (i + 1) ps)) t u → InTurn Does (handles (drop i ps)) s u
-    turn_mapped s t p within is first rest = from_here (Some p) s within is (next first rest)
-
-    pub turn_end : length ps ≤ i → InTurn Does (handles (drop i ps)) u u
-    turn_end past = subst (λ (hs : List ℕ). InTurn Does hs u u) (sym (at_drop_all handles ps i past)) none_left
+    -- With no handle left, all had their turn.
+    pub turned : (s : Store) (ks : List ℕ) → length hs ≤ i → (InTurn Does (drop i hs) u u → InTurn Does hs s u) → hs ≡ ks → InTurn Does ks s u
+    turned s ks past all is = subst (λ (js : List ℕ). InTurn Does js s u) is (all (subst (λ (js : List ℕ). InTurn Does js u u) (sym (at_drop_all (λ js. js) hs i past)) none_left))

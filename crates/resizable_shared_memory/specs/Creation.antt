@@ -13,12 +13,14 @@ use Rattle.shm_allocator.specs.declared.layout.ValidLayout.{ValidLayout}
 use Rattle.shm_allocator.specs.Meaning.{Meaning}
 use Rattle.shm_allocator.specs.Numbers.{Valid}
 use Rattle.resizable_shared_memory.specs.Moves.{Begins}
+use Rattle.resizable_shared_memory.specs.Places.{Numbers}
 use Rattle.resizable_shared_memory.specs.Segments.{SegmentDenied, MakesSegment}
 use Rattle.resizable_shared_memory.specs.Withdrawals.{Withdrawn}
 use Rattle.resizable_shared_memory.specs.declared.fault.ResizableShmCreateError.{ResizableShmCreateError}
 use Rattle.resizable_shared_memory.specs.declared.fault.ResizableShmCreateError.TheVariants as creating
 use Rattle.resizable_shared_memory.specs.declared.memory.DynamicMemory.{DynamicMemory}
 use Rattle.resizable_shared_memory.specs.declared.record.CreationRecord.{CreationRecord}
+use Rattle.resizable_shared_memory.specs.declared.table.Place.{Place}
 
 -- The layout of one byte, which the management segment is made for.
 abbrev pub one_byte : ValidLayout
@@ -56,7 +58,9 @@ module _ {A C : Type 0} (α : Meaning A C) where
   -- A memory as it is created from the hint h, with the management segment o and the first segment q.
   pub record Created (n : List ℕ) (way : AllocationStrategy) (h : SharedMemorySetupHint C) (o q : Opened) (m : DynamicMemory A) : Type 0 where
     pub fresh : α.fresh h.config h.payload_size m.allocator
-    pub tables : Begins n way o.handle q (α.bucket m.allocator) m.tables
+    pub place : Place
+    pub numbers : Numbers place q.handle q.address (α.bucket m.allocator) 0
+    pub tables : Begins n way o.handle place m.tables
 
   -- What a creation comes to, once its record became a memory.
   abbrev pub Creates : List ℕ → Layout → ℕ → AllocationStrategy → Store → Result (DynamicMemory A) ResizableShmCreateError → Store → Type 0
@@ -80,7 +84,9 @@ module _ {A C : Type 0} (α : Meaning A C) where
   -- The memory that a record becomes.
   pub record Becomes (x : CreationRecord C) (m : DynamicMemory A) : Type 0 where
     pub fresh : α.possible x.config x.payload_size ≡ true → α.fresh x.config x.payload_size m.allocator
-    pub tables : Begins (text x.base) x.strategy x.management x.segment (α.bucket m.allocator) m.tables
+    pub place : Place
+    pub numbers : Numbers place x.segment.handle x.segment.address (α.bucket m.allocator) 0
+    pub tables : Begins (text x.base) x.strategy x.management place m.tables
 
   -- Whatever creation the record is of, the memory is the one created.
   abbrev pub Completes : CreationRecord C → DynamicMemory A → Type 0

@@ -1,5 +1,5 @@
 -- Held chunks, as a ledger lists them.
-use Rattle.std.specs.Prelude.{ℕ, ◌+◌, ◌<◌, ◌≤◌, Bool, cond, ◌&&◌, List, [], ◌∷◌, map, length, take, Some, None, Option, ◌==◌, slice_index_or}
+use Rattle.std.specs.Prelude.{ℕ, ◌+◌, ◌<◌, ◌≤◌, Bool, cond, ◌&&◌, List, [], ◌∷◌, length, Some, None, Option, ◌==◌, slice_index_or}
 use Rattle.pointer_offset.specs.Packing.{packed, id_of}
 use Rattle.resizable_shared_memory.specs.declared.ledger.Held.{Held}
 
@@ -12,10 +12,6 @@ pub record Entry : Type 0 where
 -- A held chunk as an entry.
 abbrev pub entry : Held → Entry
 entry c = record { value = packed c.start c.segment.0; grant = c.grant; size = c.size }
-
--- The first of some held chunks, as entries.
-abbrev pub entries_in : List Held → ℕ → List Entry
-entries_in cs n = map entry (take n cs)
 
 -- What is read past the last entry.
 abbrev pub no_entry : Entry

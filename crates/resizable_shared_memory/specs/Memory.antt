@@ -17,8 +17,8 @@ use Rattle.shm_allocator.specs.Numbers.{Valid}
 use Rattle.resizable_shared_memory.specs.Entries.{Entry, find}
 use Rattle.resizable_shared_memory.specs.Faults.{allocation_number, write_number, not_mapped_number}
 use Rattle.resizable_shared_memory.specs.Moves.{Enters, Advances, Releases}
-use Rattle.resizable_shared_memory.specs.Parts.{current, place, chunks, given, base}
-use Rattle.resizable_shared_memory.specs.Places.{handles}
+use Rattle.resizable_shared_memory.specs.Parts.{current, place as place_at, chunks, given, base}
+use Rattle.resizable_shared_memory.specs.Places.{handles, Numbers}
 use Rattle.resizable_shared_memory.specs.Segments.{MakesSegment}
 use Rattle.resizable_shared_memory.specs.Withdrawals.{WithdrawsAll}
 use Rattle.resizable_shared_memory.specs.declared.fault.ChunkWriteError.{ChunkWriteError}
@@ -41,7 +41,9 @@ module _ {A C : Type 0} (α : Meaning A C) where
     pub between : Store
     pub made : MakesSegment α s (segment_name (base m) (current m + 1)) (hint_for m l) (Ok opened) between
     pub fresh : α.fresh (hint_for m l).config (hint_for m l).payload_size n.allocator
-    pub tables : Advances m.tables between opened (α.bucket n.allocator) n.tables t
+    pub place : Place
+    pub numbers : Numbers place opened.handle opened.address (α.bucket n.allocator) 0
+    pub tables : Advances m.tables between place n.tables t
 
   -- A growth that was refused: no id is left, or the store's refusal, carried whole.
   pub data GrowthRefused (m : DynamicMemory A) (s : Store) (l : ValidLayout) : ResizableShmAllocationError → Store → Type 0 where
@@ -112,7 +114,7 @@ module _ {A : Type 0} where
     pub chunk : Entry
     pub found : find value grant (chunks m) ≡ Some chunk
     pub fits : from + size ≤ chunk.size
-    pub there : place m (id_of value) ≡ Some p
+    pub there : place_at m (id_of value) ≡ Some p
 
   -- Why nothing was put into a chunk, by the number of the denial; the store's two come last.
   pub data WriteDenied (m : DynamicMemory A) (s : Store) (value grant from size : ℕ) : ℕ → Type 0 where
@@ -127,8 +129,8 @@ module _ {A : Type 0} where
 
   -- The bucket size of a mapped segment, or that it is not mapped.
   abbrev pub TellsBucketSize : DynamicMemory A → ℕ → Result ℕ NotMapped → Type 0
-  TellsBucketSize m k (Ok size) = (p : Place) × (place m k ≡ Some p) × (size ≡ p.bucket_size)
-  TellsBucketSize m k (Err e) = (not_mapped_number e ≡ 14) × (place m k ≡ None)
+  TellsBucketSize m k (Ok size) = (p : Place) × (place_at m k ≡ Some p) × (size ≡ p.bucket_size)
+  TellsBucketSize m k (Err e) = (not_mapped_number e ≡ 14) × (place_at m k ≡ None)
 
   -- A memory is used up: every segment is withdrawn, the management segment last.
   abbrev pub Ends : DynamicMemory A → Store → Store → Type 0

@@ -1,7 +1,6 @@
 -- What a memory's tables do in one step.
 use Rattle.std.specs.Prelude.{◌≡◌, ℕ, ◌+◌, List, [], ◌∷◌, ◌++◌, Some, None, Option, ◌≢◌}
 use Rattle.pointer_offset.specs.Packing.{packed, id_of}
-use Rattle.shared_memory.specs.declared.fault.Opened.{Opened}
 use Rattle.shared_memory.specs.Meaning.{Store}
 use Rattle.shared_memory.specs.Names.{text}
 use Rattle.shm_allocator.specs.declared.AllocationStrategy.{AllocationStrategy}
@@ -20,15 +19,13 @@ pub record Kept (m n : Tables) : Type 0 where
   pub strategy : n.strategy ≡ m.strategy
   pub management : n.management ≡ m.management
 
--- The tables of a memory of that name with one segment, of the id 0, and no chunk.
-pub record Begins (name : List ℕ) (way : AllocationStrategy) (management : ℕ) (opened : Opened) (bucket : ℕ) (n : Tables) : Type 0 where
+-- The tables of a memory of that name with one segment, of the id 0 and at that place, and no chunk.
+pub record Begins (name : List ℕ) (way : AllocationStrategy) (management : ℕ) (place : Place) (n : Tables) : Type 0 where
   pub name_is : text n.base ≡ name
   pub strategy : n.strategy ≡ way
   pub management_is : n.management ≡ management
   pub first : n.current.0 ≡ 0
-  pub there : Place
-  pub is : place_of n.table 0 ≡ Some there
-  pub numbers : Numbers there opened.handle opened.address bucket 0
+  pub is : place_of n.table 0 ≡ Some place
   pub others : (k : ℕ) → (k ≢ 0) → place_of n.table k ≡ None
   pub none_held : entries_of n.ledger ≡ []
   pub none_given : n.given ≡ 0
@@ -37,11 +34,11 @@ pub record Begins (name : List ℕ) (way : AllocationStrategy) (management : ℕ
 pub record Enters (m : Tables) (o size : ℕ) (c : Chunk) (n : Tables) : Type 0 where
   pub there : Place
   pub was : place_of m.table m.current.0 ≡ Some there
-  pub value : c.offset.0 ≡ packed o m.current.0
+  pub value : c.claim.offset.0 ≡ packed o m.current.0
   pub address : c.address ≡ there.address + o
-  pub grant : c.grant ≡ m.given + 1
+  pub grant : c.claim.grant ≡ m.given + 1
   pub grants : n.given ≡ m.given + 1
-  pub ledger : entries_of n.ledger ≡ entries_of m.ledger ++ ((record { value = c.offset.0; grant = c.grant; size = size }) ∷ [])
+  pub ledger : entries_of n.ledger ≡ entries_of m.ledger ++ ((record { value = c.claim.offset.0; grant = c.claim.grant; size = size }) ∷ [])
   pub counted : Place
   pub is_counted : place_of n.table m.current.0 ≡ Some counted
   pub numbers : Numbers counted there.handle there.address there.bucket_size (there.count + 1)
@@ -49,15 +46,13 @@ pub record Enters (m : Tables) (o size : ℕ) (c : Chunk) (n : Tables) : Type 0 
   pub stays : n.current.0 ≡ m.current.0
   pub kept : Kept m n
 
--- The next segment, which was opened, became current, and the one before was left.
-pub record Advances (m : Tables) (s : Store) (opened : Opened) (bucket : ℕ) (n : Tables) (t : Store) : Type 0 where
+-- The next segment, which is at that place, became current, and the one before was left.
+pub record Advances (m : Tables) (s : Store) (place : Place) (n : Tables) (t : Store) : Type 0 where
   pub next : n.current.0 ≡ m.current.0 + 1
   pub old : Place
   pub old_there : place_of m.table m.current.0 ≡ Some old
   pub leaves : Vacates old (place_of n.table m.current.0) s t
-  pub new : Place
-  pub new_there : place_of n.table n.current.0 ≡ Some new
-  pub new_numbers : Numbers new opened.handle opened.address bucket 0
+  pub new_there : place_of n.table n.current.0 ≡ Some place
   pub others : (k : ℕ) → (k ≢ m.current.0) → (k ≢ n.current.0) → place_of n.table k ≡ place_of m.table k
   pub ledger : entries_of n.ledger ≡ entries_of m.ledger
   pub grants : n.given ≡ m.given

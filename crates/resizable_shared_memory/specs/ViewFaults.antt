@@ -1,6 +1,8 @@
 -- The numbers of the denials of a viewer.
 use Rattle.std.specs.Prelude.{ℕ}
 use Rattle.shared_memory.specs.Meaning.{open_number}
+use Rattle.resizable_shared_memory.specs.declared.view.fault.OpenForError.{OpenForError}
+use Rattle.resizable_shared_memory.specs.declared.view.fault.OpenForError.TheVariants as opening_for
 use Rattle.resizable_shared_memory.specs.declared.view.fault.RegisterError.{RegisterError}
 use Rattle.resizable_shared_memory.specs.declared.view.fault.RegisterError.TheVariants as registering
 use Rattle.resizable_shared_memory.specs.declared.view.fault.UnregisterError.{UnregisterError}
@@ -9,6 +11,11 @@ use Rattle.resizable_shared_memory.specs.declared.view.fault.ViewCloseError.{Vie
 use Rattle.resizable_shared_memory.specs.declared.view.fault.ViewOpenError.{ViewOpenError}
 use Rattle.resizable_shared_memory.specs.declared.view.fault.ViewOpenError.TheVariants as opening
 use Rattle.resizable_shared_memory.specs.declared.view.fault.ViewerClosed.{ViewerClosed}
+
+-- The number of each denial of an opening for an allocator; those from below keep theirs.
+abbrev pub open_for_number : OpenForError → ℕ
+open_for_number opening_for.WrongAllocatorSelected = 28
+open_for_number (opening_for.SharedMemoryOpenError e) = open_number e
 
 -- The number of each denial of an opening; those from below keep theirs.
 abbrev pub view_open_number : ViewOpenError → ℕ

@@ -1,15 +1,14 @@
-ghost use Rattle.std.specs.Prelude.{◌≡◌, ◌≤◌, length};
-ghost use Rattle.resizable_shared_memory.specs.Entries.{entries_in, Rises};
+ghost use Rattle.std.specs.Prelude.{map};
+ghost use Rattle.resizable_shared_memory.specs.Entries.{entry, Rises};
 
+use arrayvec::ArrayVec;
 use pointer_offset::SegmentId;
 
 mod entries;
 mod search;
 
-const CAPACITY: usize = 1024;
-
 // A chunk that is held: its segment and start, the number of its grant and how many bytes were asked.
-#[derive(Clone, Copy)]
+#[derive(Clone, Copy, Default)]
 pub struct Held {
     pub segment: SegmentId,
     pub start: u32,
@@ -18,11 +17,8 @@ pub struct Held {
 }
 
 // The chunks that are held, the oldest first.
-#[derive(Clone, Copy)]
+#[derive(Drop)]
 pub struct Ledger {
-    entries: [Held; CAPACITY],
-    len: usize,
-    ghost within: { len ≤ 1024 },
-    ghost whole: { length entries ≡ 1024 },
-    ghost rising: { Rises (entries_in entries len) },
+    entries: ArrayVec<Held, 1024>,
+    ghost rising: { Rises (map entry entries.items) },
 }

@@ -1,6 +1,7 @@
 #![tactic(auto)]
 
 pub mod builder;
+pub mod claim;
 pub mod fault;
 mod ledger;
 pub mod memory;

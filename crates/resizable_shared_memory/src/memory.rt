@@ -5,9 +5,10 @@ ghost use Rattle.resizable_shared_memory.specs.Ledgers.{entries_of, Counted};
 ghost use Rattle.resizable_shared_memory.specs.Places.{place_of, Ahead, Busy};
 ghost use Rattle.std.specs.Prelude.{◌≡◌, true, is_some};
 
+use crate::claim::Claim;
 use crate::ledger::Ledger;
 use crate::table::Table;
-use pointer_offset::{PointerOffset, SegmentId};
+use pointer_offset::SegmentId;
 use shared_memory::name::BaseName;
 use shm_allocator::AllocationStrategy;
 
@@ -44,10 +45,9 @@ pub struct DynamicMemory<A> {
     tables: Tables,
 }
 
-// A chunk: where it is, and the number of its grant, by which its holder is told from an earlier one.
+// A chunk that was given: its claim, and the address of its first byte.
 #[derive(PartialEq, Eq, Debug, Drop)]
 pub struct Chunk {
-    pub offset: PointerOffset,
+    pub claim: Claim,
     pub address: u64,
-    pub grant: u64,
 }

@@ -1,7 +1,6 @@
 ghost use Rattle.std.specs.Prelude.{◌≡◌, ◌^◌, ◌<◌, length};
 
 mod access;
-mod closing;
 mod withdrawal;
 
 // A mapped segment: its handle and address, its bucket size (0 without buckets) and a count.

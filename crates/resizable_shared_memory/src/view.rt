@@ -17,12 +17,16 @@ mod unregistering;
 // Reads a memory that another party made. It maps a segment with the first registration in it.
 #[derive(Drop)]
 pub struct DynamicView {
-    base: BaseName,
-    allocator_id: u8,
-    management: u16,
+    // None once it was closed.
+    open: Option<OpenView>,
+}
+
+// A viewer that was not closed yet.
+#[derive(Drop)]
+struct OpenView {
+    record: ViewRecord,
     table: Table,
     current: Option<SegmentId>,
-    closed: bool,
     ghost mapped: { current_mapped table current ≡ true },
 }
 

@@ -2,6 +2,7 @@ ghost use Rattle.resizable_shared_memory.specs.Creation.{Becomes, Completes};
 
 use super::{DynamicMemory, Tables};
 use crate::record::CreationRecord;
+use crate::table::Place;
 use shm_allocator::ShmAllocator;
 
 impl<A: ShmAllocator> DynamicMemory<A> {
@@ -11,14 +12,8 @@ impl<A: ShmAllocator> DynamicMemory<A> {
         ensures completes { Completes A.ShmAllocator.means «record» result }
     {
         let allocator = A::set_up(record.config, record.payload_size);
-        let bucket_size = allocator.bucket();
-        let tables = Tables::new(
-            record.base,
-            record.strategy,
-            record.management,
-            record.segment,
-            bucket_size,
-        );
+        let first = Place::of(record.segment, allocator.bucket());
+        let tables = Tables::new(record.base, record.strategy, record.management, first);
         DynamicMemory { allocator, tables }
     }
 }

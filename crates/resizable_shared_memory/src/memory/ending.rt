@@ -9,7 +9,10 @@ impl<A: ShmAllocator> DynamicMemory<A> {
     pub fn end<S: SegmentStore>(self, store: &mut S)
         ensures { Ends self (S.SegmentStore.means store.old) (S.SegmentStore.means store.new) }
     {
-        self.tables.table.withdraw_all(store);
+        let handles = self.tables.table.handles();
+        for handle in handles.as_slice() {
+            let _ = store.withdraw(*handle);
+        }
         let _ = store.withdraw(self.tables.management);
     }
 }

@@ -5,6 +5,7 @@ ghost use Rattle.resizable_shared_memory.specs.Memory.{Grows, MakesRoom};
 use super::DynamicMemory;
 use crate::fault::ResizableShmAllocationError;
 use crate::segment::make_segment;
+use crate::table::Place;
 use pointer_offset::SegmentId;
 use shared_memory::SegmentStore;
 use shm_allocator::layout::ValidLayout;
@@ -20,10 +21,10 @@ impl<A: ShmAllocator> DynamicMemory<A> {
     ) -> Result<(), ResizableShmAllocationError>
         ensures { MakesRoom A.ShmAllocator.means self.old (S.SegmentStore.means store.old) layout refusal result self.new (S.SegmentStore.means store.new) }
     {
-        if let AllocationStrategy::Static = self.tables.strategy {
-            return Err(ResizableShmAllocationError::from(refusal));
+        match self.tables.strategy {
+            AllocationStrategy::Static => Err(ResizableShmAllocationError::from(refusal)),
+            _ => self.grow(store, layout),
         }
-        self.grow(store, layout)
     }
 
     // Makes the next segment from the allocator's own hint, and makes it current.
@@ -42,8 +43,8 @@ impl<A: ShmAllocator> DynamicMemory<A> {
         let name = self.tables.base.segment(SegmentId::new(id + 1));
         let opened = make_segment::<A, S>(store, &name, hint)?;
         self.allocator = A::set_up(hint.config, hint.payload_size as u32);
-        let bucket_size = self.allocator.bucket();
-        self.tables.advance(opened, bucket_size, store);
+        let place = Place::of(opened, self.allocator.bucket());
+        self.tables.advance(place, store);
         Ok(())
     }
 }

@@ -22,9 +22,7 @@ impl<A: BucketAllocator> DynamicMemory<A> {
     pub fn bucket_size(&self, id: SegmentId) -> Result<u32, NotMapped>
         ensures { TellsBucketSize self.now id.0 result }
     {
-        let Some(place) = self.tables.table.get(id) else {
-            return Err(NotMapped);
-        };
+        let place = self.tables.table.get(id).ok_or(NotMapped)?;
         Ok(place.bucket_size)
     }
 }

@@ -3,7 +3,7 @@
 ghost use Rattle.resizable_shared_memory.specs.Memory.{Deallocates};
 
 use super::DynamicMemory;
-use pointer_offset::PointerOffset;
+use crate::claim::Claim;
 use shared_memory::SegmentStore;
 use shm_allocator::{NotHeld, ShmAllocator};
 
@@ -12,15 +12,12 @@ impl<A: ShmAllocator> DynamicMemory<A> {
     pub fn deallocate<S: SegmentStore>(
         &mut self,
         store: &mut S,
-        offset: PointerOffset,
-        grant: u64,
+        claim: Claim,
     ) -> Result<(), NotHeld>
-        ensures { Deallocates A.ShmAllocator.means offset.0 grant self.old (S.SegmentStore.means store.old) result self.new (S.SegmentStore.means store.new) }
+        ensures { Deallocates A.ShmAllocator.means claim.offset.0 claim.grant self.old (S.SegmentStore.means store.old) result self.new (S.SegmentStore.means store.new) }
     {
-        let Some(held) = self.tables.release(store, offset, grant) else {
-            return Err(NotHeld);
-        };
-        if held.segment.value() == self.tables.current.value() {
+        let held = self.tables.release(store, claim).ok_or(NotHeld)?;
+        if held.segment == self.tables.current {
             let _ = self.allocator.deallocate(held.start, held.size);
         }
         Ok(())

@@ -1,7 +1,8 @@
-ghost use Rattle.std.specs.Prelude.{◌≡◌, ℕ, ◌^◌, ◌<◌, None};
-ghost use Rattle.resizable_shared_memory.specs.Places.{place_of, active, Numbers, Put};
+ghost use Rattle.std.specs.Prelude.{◌≡◌, ℕ, ◌^◌, ◌<◌, None, is_some, count_by};
+ghost use Rattle.resizable_shared_memory.specs.Places.{place_of, handles, active, Numbers, Put};
 
 use super::{Place, Table};
+use arrayvec::ArrayVec;
 use pointer_offset::SegmentId;
 use shared_memory::fault::Opened;
 
@@ -19,6 +20,7 @@ impl Place {
         }
     }
 
+    // Field by field, since a struct with a ghost field takes no `..`.
     pub(crate) fn with_count(self, count: u32) -> Place
         ensures { Numbers result self.handle self.address self.bucket_size count }
     {
@@ -55,12 +57,25 @@ impl Table {
     pub(crate) fn number_mapped(&self) -> usize
         ensures { result ≡ active self.now.places }
     {
-        let mut mapped = 0;
+        number_of_some(&self.places)
+    }
+
+    // The handles of the mapped places, in the order of their ids.
+    pub(crate) fn handles(&self) -> ArrayVec<u16, 256>
+        ensures { result.items ≡ handles self.now.places }
+    {
+        let mut handles = ArrayVec::new();
         for place in &self.places {
-            if place.is_some() {
-                mapped += 1;
+            if let Some(place) = place {
+                handles.push(place.handle);
             }
         }
-        mapped
+        handles
     }
+}
+
+fn number_of_some(places: &[Option<Place>]) -> usize
+    ensures { result ≡ count_by is_some places.now }
+{
+    places.iter().filter(|place| place.is_some()).count()
 }

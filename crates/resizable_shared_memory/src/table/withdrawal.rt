@@ -1,8 +1,8 @@
 // Ported from src/resizable_shared_memory/dynamic.rs of crate iceoryx2-cal 0.9.3; see NOTICE.
 
 ghost use Rattle.std.specs.Prelude.{◌≡◌, ◌≤◌, true, is_some};
-ghost use Rattle.resizable_shared_memory.specs.Places.{place_of, count_of, handles};
-ghost use Rattle.resizable_shared_memory.specs.Withdrawals.{Leaves, Lowers, WithdrawsAll};
+ghost use Rattle.resizable_shared_memory.specs.Places.{place_of, count_of};
+ghost use Rattle.resizable_shared_memory.specs.Withdrawals.{Leaves, Lowers};
 
 use super::Table;
 use pointer_offset::SegmentId;
@@ -37,21 +37,11 @@ impl Table {
         let Some(place) = self.get(id) else {
             unreachable()
         };
-        if place.count > 1 || id.value() == current.value() {
+        if place.count > 1 || id == current {
             self.put(id, Some(place.with_count(place.count - 1)));
             return;
         }
         let _ = store.withdraw(place.handle);
         self.put(id, None);
-    }
-
-    pub(crate) fn withdraw_all<S: SegmentStore>(&self, store: &mut S)
-        ensures { WithdrawsAll (handles self.now.places) (S.SegmentStore.means store.old) (S.SegmentStore.means store.new) }
-    {
-        for place in &self.places {
-            if let Some(place) = place {
-                let _ = store.withdraw(place.handle);
-            }
-        }
     }
 }

@@ -1,8 +1,8 @@
-ghost use Rattle.resizable_shared_memory.specs.Viewer.{ClosesView};
+ghost use Rattle.resizable_shared_memory.specs.Closings.{ClosesAll};
+ghost use Rattle.resizable_shared_memory.specs.Viewer.{ClosesView, every_map};
 
 use super::fault::ViewCloseError;
-use super::{ClosingMark, DynamicView};
-use crate::table::Table;
+use super::{ClosingMark, DynamicView, OpenView};
 use shared_memory::SegmentStore;
 
 impl DynamicView {
@@ -14,15 +14,24 @@ impl DynamicView {
     ) -> Result<(), ViewCloseError>
         ensures { ClosesView self.old (S.SegmentStore.means store.old) result self.new (S.SegmentStore.means store.new) }
     {
-        if self.closed {
+        let Some(view) = &self.open else {
             return Err(ViewCloseError { mark });
-        }
+        };
         let ClosingMark { spent: _ } = mark;
-        self.table.close_all(store);
-        let _ = store.close(self.management);
-        self.table = Table::empty();
-        self.current = None;
-        self.closed = true;
+        view.close(store);
+        self.open = None;
         Ok(())
+    }
+}
+
+impl OpenView {
+    fn close<S: SegmentStore>(&self, store: &mut S)
+        ensures { ClosesAll (every_map self.now) (S.SegmentStore.means store.old) (S.SegmentStore.means store.new) }
+    {
+        let handles = self.table.handles();
+        for handle in handles.as_slice() {
+            let _ = store.close(*handle);
+        }
+        let _ = store.close(self.record.management);
     }
 }

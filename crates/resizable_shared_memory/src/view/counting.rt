@@ -10,9 +10,9 @@ impl DynamicView {
     pub fn number_of_active_segments(&self) -> Result<usize, ViewerClosed>
         ensures { TellsActive self.now result }
     {
-        if self.closed {
-            return Err(ViewerClosed);
+        match &self.open {
+            Some(view) => Ok(view.table.number_mapped()),
+            None => Err(ViewerClosed),
         }
-        Ok(self.table.number_mapped())
     }
 }

@@ -1,4 +1,5 @@
-ghost use Rattle.resizable_shared_memory.specs.ViewFaults.{view_open_number, register_number, unregister_number, viewer_closed_number, close_number};
+ghost use Rattle.resizable_shared_memory.specs.ViewFaults.{open_for_number, view_open_number, register_number, unregister_number, viewer_closed_number, close_number};
+ghost use Rattle.resizable_shared_memory.specs.declared.view.fault.OpenForError.TheVariants as opening_for;
 ghost use Rattle.resizable_shared_memory.specs.declared.view.fault.RegisterError.TheVariants as registering;
 ghost use Rattle.resizable_shared_memory.specs.declared.view.fault.ViewOpenError.TheVariants as opening;
 ghost use Rattle.std.specs.Prelude.{◌≡◌};
@@ -7,6 +8,21 @@ use super::ClosingMark;
 use pointer_offset::Denial;
 use shared_memory::fault::SharedMemoryOpenError;
 use shared_memory::name::BadName;
+
+// Why a segment was not opened for an allocator.
+pub(super) enum OpenForError {
+    // The segment was made for another kind of allocator.
+    WrongAllocatorSelected,
+    SharedMemoryOpenError(SharedMemoryOpenError),
+}
+
+impl From<SharedMemoryOpenError> for OpenForError {
+    ghost from_gives = { λ lower upper. upper ≡ opening_for.SharedMemoryOpenError lower };
+
+    fn from(error: SharedMemoryOpenError) -> OpenForError {
+        OpenForError::SharedMemoryOpenError(error)
+    }
+}
 
 // Why a viewer was not opened.
 #[derive(Clone, Copy, PartialEq, Eq, Debug)]
@@ -45,6 +61,17 @@ impl From<SharedMemoryOpenError> for ViewOpenError {
     }
 }
 
+impl From<OpenForError> for ViewOpenError {
+    ghost from_gives = { λ lower upper. view_open_number upper ≡ open_for_number lower };
+
+    fn from(error: OpenForError) -> ViewOpenError {
+        match error {
+            OpenForError::WrongAllocatorSelected => ViewOpenError::WrongAllocatorSelected,
+            OpenForError::SharedMemoryOpenError(error) => ViewOpenError::from(error),
+        }
+    }
+}
+
 // Why nothing was registered.
 #[derive(Clone, Copy, PartialEq, Eq, Debug)]
 pub enum RegisterError {
@@ -73,6 +100,17 @@ impl From<SharedMemoryOpenError> for RegisterError {
 
     fn from(error: SharedMemoryOpenError) -> RegisterError {
         RegisterError::SharedMemoryOpenError(error)
+    }
+}
+
+impl From<OpenForError> for RegisterError {
+    ghost from_gives = { λ lower upper. register_number upper ≡ open_for_number lower };
+
+    fn from(error: OpenForError) -> RegisterError {
+        match error {
+            OpenForError::WrongAllocatorSelected => RegisterError::WrongAllocatorSelected,
+            OpenForError::SharedMemoryOpenError(error) => RegisterError::from(error),
+        }
     }
 }
 

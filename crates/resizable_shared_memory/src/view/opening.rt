@@ -2,11 +2,11 @@
 
 ghost use Rattle.resizable_shared_memory.specs.Viewer.{OpensFor, OpensView, Shows};
 
-use super::fault::ViewOpenError;
-use super::{ClosingMark, DynamicView, ViewRecord};
+use super::fault::{OpenForError, ViewOpenError};
+use super::{ClosingMark, DynamicView, OpenView, ViewRecord};
 use crate::table::Table;
 use shared_memory::SegmentStore;
-use shared_memory::fault::{Opened, SharedMemoryOpenError};
+use shared_memory::fault::Opened;
 use shared_memory::name::BaseName;
 use shm_allocator::ShmAllocator;
 
@@ -15,15 +15,15 @@ pub(super) fn open_for<S: SegmentStore>(
     store: &mut S,
     name: &[u8],
     allocator_id: u8,
-) -> Result<Option<Opened>, SharedMemoryOpenError>
+) -> Result<Opened, OpenForError>
     ensures { OpensFor (S.SegmentStore.means store.old) name.now allocator_id result (S.SegmentStore.means store.new) }
 {
     let opened = store.open(name)?;
     if opened.allocator_id != allocator_id {
         let _ = store.close(opened.handle);
-        return Ok(None);
+        return Err(OpenForError::WrongAllocatorSelected);
     }
-    Ok(Some(opened))
+    Ok(opened)
 }
 
 impl DynamicView {
@@ -36,10 +36,7 @@ impl DynamicView {
     {
         let base = BaseName::new(name)?;
         let allocator_id = A::unique_id();
-        let found = open_for(store, base.management().as_bytes(), allocator_id)?;
-        let Some(opened) = found else {
-            return Err(ViewOpenError::WrongAllocatorSelected);
-        };
+        let opened = open_for(store, base.management().as_bytes(), allocator_id)?;
         let record = ViewRecord {
             base,
             allocator_id,
@@ -53,13 +50,11 @@ impl ViewRecord {
     pub fn into_view(self) -> DynamicView
         ensures { Shows self result }
     {
-        DynamicView {
-            base: self.base,
-            allocator_id: self.allocator_id,
-            management: self.management,
+        let view = OpenView {
+            record: self,
             table: Table::empty(),
             current: None,
-            closed: false,
-        }
+        };
+        DynamicView { open: Some(view) }
     }
 }

@@ -1,13 +1,13 @@
 // Ported from src/resizable_shared_memory/dynamic.rs of crate iceoryx2-cal 0.9.3; see NOTICE.
 
 ghost use Rattle.pointer_offset.specs.Packing.{id_of};
-ghost use Rattle.resizable_shared_memory.specs.Viewer.{Leaving, Registers, seen};
+ghost use Rattle.resizable_shared_memory.specs.Viewer.{as_open, Leaving, Registers, seen};
 ghost use Rattle.shared_memory.specs.Meaning.{Store};
-ghost use Rattle.std.specs.Prelude.{◌≡◌, false, Some, None};
+ghost use Rattle.std.specs.Prelude.{◌≡◌, Some, None};
 
-use super::DynamicView;
 use super::fault::RegisterError;
 use super::opening::open_for;
+use super::{DynamicView, OpenView};
 use crate::table::Place;
 use pointer_offset::PointerOffset;
 use shared_memory::SegmentStore;
@@ -21,9 +21,21 @@ impl DynamicView {
     ) -> Result<u64, RegisterError>
         ensures { Registers offset.0 self.old (S.SegmentStore.means store.old) result self.new (S.SegmentStore.means store.new) }
     {
-        if self.closed {
-            return Err(RegisterError::ViewerClosed);
+        match &mut self.open {
+            Some(view) => view.register(store, offset),
+            None => Err(RegisterError::ViewerClosed),
         }
+    }
+}
+
+impl OpenView {
+    fn register<S: SegmentStore>(
+        &mut self,
+        store: &mut S,
+        offset: PointerOffset,
+    ) -> Result<u64, RegisterError>
+        ensures { Registers offset.0 (as_open self.old) (S.SegmentStore.means store.old) result (as_open self.new) (S.SegmentStore.means store.new) }
+    {
         match self.table.get(offset.segment_id()) {
             Some(place) => self.add(place, offset),
             None => self.map(store, offset),
@@ -32,9 +44,8 @@ impl DynamicView {
 
     // Counts one registration more at a mapped place.
     fn add(&mut self, place: Place, offset: PointerOffset) -> Result<u64, RegisterError>
-        requires still_open { self.old.closed ≡ false }
-        requires there { seen self.old (id_of offset.0) ≡ Some place }
-        ensures { (s : Store) → Registers offset.0 self.old s result self.new s }
+        requires { seen self.old (id_of offset.0) ≡ Some place }
+        ensures { (s : Store) → Registers offset.0 (as_open self.old) s result (as_open self.new) s }
     {
         if place.count == u32::MAX {
             return Err(RegisterError::RegistrationsFull);
@@ -50,16 +61,12 @@ impl DynamicView {
         store: &mut S,
         offset: PointerOffset,
     ) -> Result<u64, RegisterError>
-        requires still_open { self.old.closed ≡ false }
-        requires absent { seen self.old (id_of offset.0) ≡ None }
-        ensures { Registers offset.0 self.old (S.SegmentStore.means store.old) result self.new (S.SegmentStore.means store.new) }
+        requires { seen self.old (id_of offset.0) ≡ None }
+        ensures { Registers offset.0 (as_open self.old) (S.SegmentStore.means store.old) result (as_open self.new) (S.SegmentStore.means store.new) }
     {
         let id = offset.segment_id();
-        let name = self.base.segment(id);
-        let found = open_for(store, name.as_bytes(), self.allocator_id)?;
-        let Some(opened) = found else {
-            return Err(RegisterError::WrongAllocatorSelected);
-        };
+        let name = self.record.base.segment(id);
+        let opened = open_for(store, name.as_bytes(), self.record.allocator_id)?;
         self.leave(store);
         self.table.put(id, Some(Place::of(opened, 0).with_count(1)));
         self.current = Some(id);

@@ -1,31 +1,21 @@
--- Each look passes over the half in which no entry has the grant.
-use Rattle.std.proofs.Common.{◌≡◌, ℕ, ◌+◌, ◌-◌, ◌/◌, ◌<◌, get_or, ap, ◌∙◌, arith}
-use Rattle.resizable_shared_memory.specs.Entries.{Entry, entry_at}
+-- The search looks at the grants in the order in which they rise.
+use Rattle.std.proofs.Common.{◌≡◌, ℕ, ◌<◌, List, length, Option, sym, subst}
+use Rattle.std.specs.Option.{MatchOption}
+use Rattle.std.specs.Ordering.{nat_cmp}
+use Rattle.std.specs.List.Sorted.{IsBinarySearchResult, IsSearchInRange}
+use Rattle.resizable_shared_memory.specs.declared.ledger.Held.{Held}
+use Rattle.resizable_shared_memory.specs.Entries.{entry_at}
 use Rattle.resizable_shared_memory.specs.Ledgers.{entries_of}
-use Rattle.resizable_shared_memory.specs.declared.ledger.Ledger.{Ledger}
-use Rattle.resizable_shared_memory.proofs.Listing.{blank, entry_of, length_of}
-use Rattle.resizable_shared_memory.proofs.Searching.{lower_half, upper_half}
+use Rattle.resizable_shared_memory.proofs.Searching.{position_of}
 use Rattle.resizable_shared_memory.proofs.ledger.Ledger.position.Goals as goal
 
-met : (l : Ledger) (i : ℕ) → i < l.len → (entry_at (entries_of l) i).grant ≡ (get_or l.entries i blank).grant
-met l i h = ap (λ (e : Entry). e.grant) (entry_of l i h)
-
-pub returns-then-met-grant : goal.returns-then-met-grant
-returns-then-met-grant c = (omega arith, met c.args.self.now _ (omega arith) ∙ c.if-met-grant.true)
-
-pub loop-low-preserved-then-met-grant-2 : goal.loop-low-preserved-then-met-grant-2
-loop-low-preserved-then-met-grant-2 c =
+pub returns : goal.returns
+returns c =
     let l = c.args.self.now in
-    let n = length_of l in
-    let i = c.loop-low.low + (c.loop-low.high - c.loop-low.low) / 2 in
-    (omega arith, lower_half (entries_of l) l.rising c.args.grant i (omega arith) (omega (arith, met l i (omega arith))), c.loop-low.invariant.2)
-
-pub loop-low-preserved : goal.loop-low-preserved
-loop-low-preserved c =
-    let l = c.args.self.now in
-    let n = length_of l in
-    let i = c.loop-low.low + (c.loop-low.high - c.loop-low.low) / 2 in (
-      omega arith,
-      c.loop-low.invariant.1,
-      (λ j le h. upper_half (entries_of l) l.rising c.args.grant i (omega arith) (omega (arith, met l i (omega arith), c.if-met-grant.false)) j le (omega arith)),
-    )
+    let g = c.args.grant in
+    let es = entries_of l in
+    let r = c.search_grant.result in
+    let read = c.deref.ensures.0 in
+    subst (λ (o : Option ℕ). MatchOption o ((j : ℕ) → j < length es → (entry_at es j).grant ≡ g → ⊥) (λ i. (i < length es) × ((entry_at es i).grant ≡ g))) (sym c.ok.ensures.value)
+    (position_of l.entries.items g l.rising r (subst (λ (cs : List Held). IsSearchInRange r (length cs)) read c.search_grant.ensures.bound)
+    (subst (λ (cs : List Held). IsBinarySearchResult (λ (h : Held). nat_cmp h.grant g) cs r) read c.search_grant.ensures.found))

@@ -4,7 +4,6 @@ use Rattle.std.proofs.lemmas.Result.{err_from_is_err_and}
 use Rattle.shared_memory.specs.Names.{segment_name, text}
 use Rattle.shm_allocator.specs.declared.SharedMemorySetupHint.{SharedMemorySetupHint}
 use Rattle.resizable_shared_memory.specs.Memory.GrowthRefused.{no_id, no_segment}
-use Rattle.resizable_shared_memory.specs.Moves.{Advances}
 use Rattle.resizable_shared_memory.proofs.Storing.{made_as}
 use Rattle.resizable_shared_memory.proofs.memory.DynamicMemory.grow.Goals as goal
 
@@ -26,12 +25,13 @@ returns g c =
     let name = c.segment-name.ensures.text ∙ ap named (c.new.ensures ∙ ap (λ (i : ℕ). i + 1) c.value-id.ensures) in
     let hinted = c.resize_hint-hint.ensures in
     let between = g.S.SegmentStore.means c.make_segment.new.store in
-    let after = g.S.SegmentStore.means c.advance.new.store in
     record {
       below = omega arith;
       opened = c.in_ok-opened.opened;
       between = between;
       made = made_as α _ _ (Ok c.in_ok-opened.opened) name hinted made;
       fresh = subst (λ (h : SharedMemorySetupHint g.row.A-Configuration.Denot). α.fresh h.config h.payload_size c.set_up.result) hinted (c.set_up.ensures made.1);
-      tables = subst (λ (b : ℕ). Advances c.args.self.now.tables between c.in_ok-opened.opened b c.advance.new.self after) c.bucket-bucket_size.ensures c.advance.ensures;
+      place = c.of-place.result;
+      numbers = let n = c.of-place.ensures in (n.0, n.1, n.2 ∙ c.bucket.ensures, n.3);
+      tables = c.advance.ensures;
     }

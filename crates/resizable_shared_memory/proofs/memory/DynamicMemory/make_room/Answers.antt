@@ -5,5 +5,5 @@ use Rattle.resizable_shared_memory.proofs.memory.DynamicMemory.make_room.Goals a
 pub returns-in-Static : goal.returns-in-Static
 returns-in-Static g c = inl (c.in-Static.is, ap Err c.from.ensures, refl, refl)
 
-pub returns : goal.returns
-returns g c = inr (c.in_default.not-Static, c.grow.ensures)
+pub returns-in_default : goal.returns-in_default
+returns-in_default g c = inr (c.in_default.not-Static, c.grow.ensures)

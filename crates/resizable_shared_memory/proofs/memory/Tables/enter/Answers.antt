@@ -1,10 +1,10 @@
 -- The chunk is the last of the ledger, and its segment counts one more.
-use Rattle.std.proofs.Common.{ℕ, ◌+◌, ◌≤◌, List, [], ◌∷◌, ◌++◌, is_some, sym, refl, ap, ◌∙◌, subst, le_refl, arith}
+use Rattle.std.proofs.Common.{ℕ, ◌+◌, ◌≤◌, List, [], ◌∷◌, ◌++◌, is_some, sym, refl, ap, ap₂, ◌∙◌, subst, le_refl, arith}
 use Rattle.pointer_offset.specs.Packing.{packed}
 use Rattle.resizable_shared_memory.specs.Entries.{Entry, GrantedUpTo}
 use Rattle.resizable_shared_memory.specs.Ledgers.{entries_of}
 use Rattle.resizable_shared_memory.specs.Places.{count_of}
-use Rattle.resizable_shared_memory.proofs.Listing.{length_of, each_push}
+use Rattle.resizable_shared_memory.proofs.Listing.{each_push}
 use Rattle.resizable_shared_memory.proofs.Tallying.{tally_le}
 use Rattle.resizable_shared_memory.proofs.Withdrawing.{mapped_below, ahead_others, busy_put, counted_more}
 use Rattle.resizable_shared_memory.proofs.memory.Tables.enter.Goals as goal
@@ -12,7 +12,7 @@ use Rattle.resizable_shared_memory.proofs.memory.Tables.enter.Goals as goal
 pub push-requires : goal.push-requires
 push-requires c =
     let m = c.args.self.now in
-    record { room = omega (arith, length_of m.ledger, c.requires.room); newest = λ i h. omega (arith, m.granted i h) }
+    record { room = c.requires.room; newest = λ i h. omega (arith, m.granted i h) }
 
 pub overflow_add-place : goal.overflow_add-place
 overflow_add-place c =
@@ -38,15 +38,15 @@ invariant_of-self c =
 pub returns : goal.returns
 returns c =
     let m = c.args.self.now in
-    let with_value : ℕ → List Entry = λ v. entries_of m.ledger ++ ((record { value = v; grant = m.given + 1; size = c.args.size }) ∷ []) in
+    let with_claim : ℕ → ℕ → List Entry = λ v g. entries_of m.ledger ++ ((record { value = v; grant = g; size = c.args.size }) ∷ []) in
     record {
       there = c.in-Some.place;
       was = sym c.in-Some.ensures;
-      value = c.offset.ensures;
+      value = c.claim.ensures.0;
       address = refl;
-      grant = refl;
+      grant = c.claim.ensures.1;
       grants = refl;
-      ledger = c.push.ensures ∙ ap with_value (sym c.offset.ensures);
+      ledger = c.push.ensures ∙ ap₂ with_claim (sym c.claim.ensures.0) (sym c.claim.ensures.1);
       counted = c.with_count.result;
       is_counted = c.put.ensures.here;
       numbers = c.with_count.ensures;

@@ -2,20 +2,23 @@
 use Rattle.std.proofs.Common.{◌+◌, refl, ap, inl, arith}
 use Rattle.resizable_shared_memory.specs.Viewer.RegisterDenied.{registrations_full}
 use Rattle.resizable_shared_memory.proofs.Storing.{same}
-use Rattle.resizable_shared_memory.proofs.Viewing.{put_at, but_places}
-use Rattle.resizable_shared_memory.proofs.view.DynamicView.add.Goals as goal
+use Rattle.resizable_shared_memory.proofs.Viewing.{put_at}
+use Rattle.resizable_shared_memory.proofs.view.OpenView.add.Goals as goal
 
 pub returns-then-place-eq4294967295 : goal.returns-then-place-eq4294967295
-returns-then-place-eq4294967295 c s = (registrations_full c.requires.still_open c.args.place c.requires.there c.if-place-eq4294967295.true, refl, same s)
+returns-then-place-eq4294967295 c s = (registrations_full c.args.self.now c.args.place refl c.requires c.if-place-eq4294967295.true, refl, same s)
 
 pub returns : goal.returns
 returns c s =
     let put = put_at c.segment_id.ensures c.put.ensures in (
-      c.requires.still_open,
+      c.args.self.now,
+      _,
+      refl,
+      refl,
       inl (
         record {
           there = c.args.place;
-          was = c.requires.there;
+          was = c.requires;
           few = omega (arith, c.if-place-eq4294967295.false);
           counted = c.with_count-counted.result;
           is = put.here;
@@ -23,7 +26,7 @@ returns c s =
           told = ap (λ o. c.args.place.address + o) c.offset.ensures;
           others = put.others;
           current = refl;
-          kept = but_places c.args.self.now;
+          kept = refl;
         },
         refl,
       ),
