@@ -4,7 +4,7 @@ use shm_allocator::{AllocationStrategy, ShmAllocationError, ShmAllocator};
 use std::test::Fail;
 
 fn bump(payload: u32) -> BumpAllocator {
-    <BumpAllocator as ShmAllocator>::set_up(Config {}, payload)
+    BumpAllocator::set_up(Config {}, payload)
 }
 
 #[test]
@@ -85,7 +85,7 @@ fn hints(rt: HostRuntime) -> Result<(), Fail> {
         16
     );
     assert_eq!(rt;
-        <BumpAllocator as ShmAllocator>::initial_setup_hint(layout(5, 4)?, 3).payload_size,
+        BumpAllocator::initial_setup_hint(layout(5, 4)?, 3).payload_size,
         24
     );
     Ok(())

@@ -11,7 +11,7 @@ fn config(size: u64, align: u64) -> Config {
 }
 
 fn pool(size: u64, align: u64, payload: u32) -> PoolAllocator {
-    <PoolAllocator as ShmAllocator>::set_up(config(size, align), payload)
+    PoolAllocator::set_up(config(size, align), payload)
 }
 
 #[test]
@@ -61,13 +61,13 @@ fn refusals_in_order(rt: HostRuntime) -> Result<(), Fail> {
 
 #[test]
 fn the_limit_of_buckets(rt: HostRuntime) {
-    assert!(rt; <PoolAllocator as ShmAllocator>::can_set_up(config(8, 8), 8192));
+    assert!(rt; PoolAllocator::can_set_up(config(8, 8), 8192));
     assert_eq!(rt; pool(8, 8, 8192).number_of_buckets(), 1024);
-    assert!(rt; <PoolAllocator as ShmAllocator>::can_set_up(config(8, 8), 8199));
-    assert!(rt; !<PoolAllocator as ShmAllocator>::can_set_up(config(8, 8), 8200));
-    assert!(rt; <PoolAllocator as ShmAllocator>::can_set_up(config(4096, 4096), 4096));
-    assert!(rt; !<PoolAllocator as ShmAllocator>::can_set_up(config(8192, 8192), 8192));
-    assert!(rt; !<PoolAllocator as ShmAllocator>::can_set_up(config(8, 3), 8));
+    assert!(rt; PoolAllocator::can_set_up(config(8, 8), 8199));
+    assert!(rt; !PoolAllocator::can_set_up(config(8, 8), 8200));
+    assert!(rt; PoolAllocator::can_set_up(config(4096, 4096), 4096));
+    assert!(rt; !PoolAllocator::can_set_up(config(8192, 8192), 8192));
+    assert!(rt; !PoolAllocator::can_set_up(config(8, 3), 8));
 }
 
 // What cannot be set up gives no start.
@@ -146,7 +146,7 @@ fn hints(rt: HostRuntime) -> Result<(), Fail> {
         96
     );
     assert_eq!(rt;
-        <PoolAllocator as ShmAllocator>::initial_setup_hint(layout(5, 4)?, 1).payload_size,
+        PoolAllocator::initial_setup_hint(layout(5, 4)?, 1).payload_size,
         8
     );
     Ok(())

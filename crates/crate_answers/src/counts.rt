@@ -76,7 +76,6 @@ impl fmt::Display for Counts {
     }
 }
 
-// One more.
 pub fn count(n: &mut u64) {
     *n = n.saturating_add(1);
 }

@@ -11,7 +11,7 @@ use std::alloc::{AllocError, Global};
 // An accepted allocation.
 #[derive(Clone, Copy)]
 struct Chunk {
-    segment: u8,
+    segment: SegmentId,
     // None once it was returned.
     block: Option<Block>,
 }
@@ -25,7 +25,7 @@ struct Block {
 // What a segment can be set up with.
 #[derive(Clone, Copy)]
 struct Setup<C> {
-    segment: u8,
+    segment: SegmentId,
     config: C,
     payload: u32,
 }
@@ -41,14 +41,14 @@ enum Round<C> {
 #[derive(Drop)]
 pub struct Subject<A: ShmAllocator> {
     allocator: A,
-    segment: u8,
+    segment: SegmentId,
     strategy: AllocationStrategy,
     chunks: Vec<Chunk>,
 }
 
 // The setup that a hint asks for, if it is possible.
 fn hinted_setup<A: ShmAllocator>(
-    segment: u8,
+    segment: SegmentId,
     hint: SharedMemorySetupHint<A::Configuration>,
 ) -> Result<Setup<A::Configuration>, Reason> {
     let config = hint.config;
@@ -71,7 +71,7 @@ fn first_setup<A: ShmAllocator>(
     if hint.payload_size == 0 {
         return Err(Reason::SizeIsZero);
     }
-    hinted_setup::<A>(0, hint)
+    hinted_setup::<A>(SegmentId::new(0), hint)
 }
 
 impl<A: ShmAllocator> Subject<A> {
@@ -127,7 +127,7 @@ impl<A: ShmAllocator> Subject<A> {
     // A round in which a segment was made.
     fn grow(&mut self, layout: ValidLayout) -> Answer {
         match self.round(layout) {
-            Ok(Round::Start(start)) => Answer::Allocation(self.value_of(start)),
+            Ok(Round::Start(start)) => Answer::Allocation(Ok(self.value_of(start))),
             Ok(Round::Growth(setup)) => {
                 self.allocator = A::set_up(setup.config, setup.payload);
                 self.segment = setup.segment;
@@ -146,7 +146,7 @@ impl<A: ShmAllocator> Subject<A> {
                     segment: self.segment,
                     block: Some(Block { start, size }),
                 })?;
-                Ok(Answer::Allocation(self.value_of(start)))
+                Ok(Answer::Allocation(Ok(self.value_of(start))))
             }
             Ok(Round::Growth(_)) => Ok(Answer::LeftToStore),
             Err(reason) => Ok(Answer::Allocation(Err(reason))),
@@ -171,18 +171,16 @@ impl<A: ShmAllocator> Subject<A> {
         }
         let segment = self
             .segment
-            .checked_add(1)
+            .successor()
             .ok_or(Reason::MaxReallocationsReached)?;
         hinted_setup::<A>(segment, self.allocator.resize_hint(layout, self.strategy))
     }
 
     // What a start of the current segment's allocator is as a value.
-    fn value_of(&self, start: u32) -> Result<u64, Reason> {
-        let segment = SegmentId::new(self.segment);
-        let at = PointerOffset::from_offset_and_segment_id(start as usize, segment).map_err(
-            Reason::of,
-        )?;
-        Ok(at.as_value())
+    fn value_of(&self, start: u32) -> u64 {
+        let packed = PointerOffset::from_offset_and_segment_id(start as usize, self.segment);
+        let Ok(at) = packed else { unreachable() };
+        at.as_value()
     }
 
     fn give_back(&mut self, place: usize, counts: &mut Counts) -> Result<Finding, Trouble> {

@@ -7,8 +7,8 @@ use shm_allocator::pool_allocator::PoolAllocator;
 use shm_allocator::{AllocationStrategy, ShmAllocator};
 use std::test::Fail;
 
-// The number of the denial of a creation, or 0.
-fn creation(builder: DynamicMemoryBuilder<'_>, store: &mut FrameStore) -> u8 {
+// The number of the denial of a creation, if it is denied.
+fn creation(builder: DynamicMemoryBuilder<'_>, store: &mut FrameStore) -> Option<u8> {
     number_of(builder.create::<PoolAllocator, FrameStore>(store))
 }
 
@@ -16,18 +16,18 @@ fn creation(builder: DynamicMemoryBuilder<'_>, store: &mut FrameStore) -> u8 {
 fn denials_come_in_order(rt: HostRuntime) -> Result<(), Fail> {
     let mut store = frames(rt.alloc(), 3)?;
     let nameless = DynamicMemoryBuilder::new(b".").max_chunk_layout_hint(layout(0, 1));
-    assert_eq!(rt; creation(nameless, &mut store), 2);
+    assert_eq!(rt; creation(nameless, &mut store), Some(2));
     let bad = holdings(layout(0, 1), 1, AllocationStrategy::Static);
-    assert_eq!(rt; creation(bad, &mut store), 1);
+    assert_eq!(rt; creation(bad, &mut store), Some(1));
     let empty = holdings(layout(1, 1), 0, AllocationStrategy::Static);
-    assert_eq!(rt; creation(empty, &mut store), 25);
+    assert_eq!(rt; creation(empty, &mut store), Some(25));
     let large = holdings(layout(4096, 1), 2, AllocationStrategy::Static);
-    assert_eq!(rt; creation(large, &mut store), 26);
+    assert_eq!(rt; creation(large, &mut store), Some(26));
     assert!(rt; store.is_empty());
     let least = DynamicMemoryBuilder::new(b"holdings");
-    assert_eq!(rt; creation(least, &mut store), 0);
+    assert_eq!(rt; creation(least, &mut store), None);
     let again = DynamicMemoryBuilder::new(b"holdings");
-    assert_eq!(rt; creation(again, &mut store), 24);
+    assert_eq!(rt; creation(again, &mut store), Some(24));
     Ok(())
 }
 

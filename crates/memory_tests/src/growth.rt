@@ -32,9 +32,15 @@ fn a_static_pool_stays(rt: HostRuntime) -> Result<(), Fail> {
     let mut store = frames(rt.alloc(), 4)?;
     let builder = holdings(layout(24, 8), 1, AllocationStrategy::Static);
     let mut memory: DynamicMemory<PoolAllocator> = memory(builder, &mut store)?;
-    assert_eq!(rt; number_of(memory.allocate(&mut store, layout(24, 8))), 0);
-    assert_eq!(rt; number_of(memory.allocate(&mut store, layout(24, 8))), 20);
-    assert_eq!(rt; number_of(memory.allocate(&mut store, layout(0, 8))), 1);
+    assert_eq!(rt; number_of(memory.allocate(&mut store, layout(24, 8))), None);
+    assert_eq!(rt;
+        number_of(memory.allocate(&mut store, layout(24, 8))),
+        Some(20)
+    );
+    assert_eq!(rt;
+        number_of(memory.allocate(&mut store, layout(0, 8))),
+        Some(1)
+    );
     Ok(())
 }
 
@@ -44,9 +50,15 @@ fn ids_run_out(rt: HostRuntime) -> Result<(), Fail> {
     let mut store = frames(rt.alloc(), 3)?;
     let builder = holdings(layout(1, 1), 1, AllocationStrategy::BestFit);
     let mut memory: DynamicMemory<BumpAllocator> = memory(builder, &mut store)?;
-    assert_eq!(rt; number_of(memory.allocate(&mut store, layout(1, 16))), 23);
+    assert_eq!(rt;
+        number_of(memory.allocate(&mut store, layout(1, 16))),
+        Some(23)
+    );
     assert_eq!(rt; memory.number_of_active_segments(), 1);
-    assert_eq!(rt; number_of(memory.allocate(&mut store, layout(1, 16))), 23);
+    assert_eq!(rt;
+        number_of(memory.allocate(&mut store, layout(1, 16))),
+        Some(23)
+    );
     let last = memory.allocate(&mut store, layout(1, 1))?;
     assert_eq!(rt; last.claim.offset.segment_id().value(), 255);
     Ok(())
@@ -57,8 +69,11 @@ fn no_room_ends_a_growth(rt: HostRuntime) -> Result<(), Fail> {
     let mut store = frames(rt.alloc(), 2)?;
     let builder = holdings(layout(24, 8), 1, AllocationStrategy::PowerOfTwo);
     let mut memory: DynamicMemory<PoolAllocator> = memory(builder, &mut store)?;
-    assert_eq!(rt; number_of(memory.allocate(&mut store, layout(24, 8))), 0);
-    assert_eq!(rt; number_of(memory.allocate(&mut store, layout(24, 8))), 26);
+    assert_eq!(rt; number_of(memory.allocate(&mut store, layout(24, 8))), None);
+    assert_eq!(rt;
+        number_of(memory.allocate(&mut store, layout(24, 8))),
+        Some(26)
+    );
     assert_eq!(rt; memory.number_of_active_segments(), 1);
     Ok(())
 }

@@ -36,10 +36,7 @@ pub fn memory<A: ShmAllocator>(
     Ok(DynamicMemory::from_record(record))
 }
 
-// The number of a denial, or 0.
-pub fn number_of<T: Drop, E: Denial + Drop>(answer: Result<T, E>) -> u8 {
-    match answer {
-        Ok(_) => 0,
-        Err(error) => error.number(),
-    }
+// The number of a denial, if it is one.
+pub fn number_of<T: Drop, E: Denial + Drop>(answer: Result<T, E>) -> Option<u8> {
+    answer.err().map(|error| error.number())
 }

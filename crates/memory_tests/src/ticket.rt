@@ -21,7 +21,7 @@ fn a_second_return_is_denied(rt: HostRuntime) -> Result<(), Fail> {
     assert_eq!(rt; third.claim.offset.as_value(), 0);
     assert_eq!(rt; third.claim.grant, 3);
     let again = memory.deallocate(&mut store, first.claim);
-    assert_eq!(rt; number_of(again), 11);
+    assert_eq!(rt; number_of(again), Some(11));
     Ok(())
 }
 
@@ -33,13 +33,13 @@ fn only_the_holder_writes(rt: HostRuntime) -> Result<(), Fail> {
     let chunk = memory.allocate(&mut store, layout(20, 8))?;
     memory.write(&mut store, chunk.claim, 18, b"ok")?;
     let past = memory.write(&mut store, chunk.claim, 19, b"ok");
-    assert_eq!(rt; number_of(past), 4);
+    assert_eq!(rt; number_of(past), Some(4));
     let guessed = Claim {
         offset: chunk.claim.offset,
         grant: 2,
     };
     let other = memory.write(&mut store, guessed, 0, b"ok");
-    assert_eq!(rt; number_of(other), 11);
+    assert_eq!(rt; number_of(other), Some(11));
     let mut written = [0; 2];
     store.read(1, 18, &mut written)?;
     assert_eq!(rt; &written, b"ok");

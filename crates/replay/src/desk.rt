@@ -54,7 +54,9 @@ impl<A: ShmAllocator> Desk<A> {
             held: true,
             lost: false,
         })?;
-        let at = PointerOffset::new(start as usize).map_err(|_| NotDone::Impossible)?;
+        let Ok(at) = PointerOffset::new(start as usize) else {
+            unreachable()
+        };
         Ok(Done::Taken { at, size })
     }
 

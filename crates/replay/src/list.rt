@@ -1,10 +1,17 @@
 use crate::words::{Call, Kind, Said};
 use std::alloc::{AllocError, Global};
+use std::fmt;
 
 #[derive(Clone, Copy)]
 pub struct Line<'a> {
     pub number: usize,
     pub text: &'a str,
+}
+
+impl fmt::Display for Line<'_> {
+    fn fmt<W: fmt::Write>(&self, f: &mut fmt::Formatter<W>) -> fmt::Result {
+        write!(f, "line {}: {}", self.number, self.text)
+    }
 }
 
 // A line that sets nothing up, and the call that it is, if it is one.

@@ -1,8 +1,9 @@
 use crate::byte_range::ByteRange;
 use pointer_offset::{Denial, PointerOffset};
 use shared_memory::fault::{
-    AccessError, BadHandle, Opened, SharedMemoryCreateError, SharedMemoryOpenError, StoreError,
+    AccessError, BadHandle, SharedMemoryCreateError, SharedMemoryOpenError, StoreError,
 };
+use shared_memory::opened::Opened;
 use shm_allocator::layout::BadLayout;
 use shm_allocator::{NotHeld, ShmAllocationError};
 use std::alloc::{AllocError, AllocFailed};

@@ -39,7 +39,7 @@ impl<'a> Report<'a> {
     }
 
     fn tell(&self, line: Line<'_>, what: &impl fmt::Display) -> anyhow::Result<()> {
-        println!(self.rt; "line {}: {}\n    {what}", line.number, line.text)?;
+        println!(self.rt; "{line}\n    {what}")?;
         Ok(())
     }
 

@@ -2,6 +2,7 @@ use crate::outcome::{CallError, Done, NotDone};
 use crate::words::{Call, SegmentCall, StoreCall};
 use crate::workplace::Workplace;
 use shared_memory::SegmentStore;
+use shared_memory::fault::BadHandle;
 use std::alloc::{AllocError, Global};
 
 // Segments are made for no kind of allocator in particular.
@@ -67,14 +68,8 @@ impl<S: SegmentStore + Drop> Shelf<S> {
 
     fn on_segment(&mut self, handle: u16, call: SegmentCall<'_>) -> Result<Done, CallError> {
         match call {
-            SegmentCall::Withdraw => {
-                let stands = self.store.withdraw(handle).map_err(NotDone::BadHandle)?;
-                Ok(Done::Stands(stands))
-            }
-            SegmentCall::Close => {
-                let stands = self.store.close(handle).map_err(NotDone::BadHandle)?;
-                Ok(Done::Stands(stands))
-            }
+            SegmentCall::Withdraw => standing(self.store.withdraw(handle)),
+            SegmentCall::Close => standing(self.store.close(handle)),
             SegmentCall::Write { from, text } => {
                 self.store
                     .write(handle, from, text.as_bytes())
@@ -92,6 +87,11 @@ impl<S: SegmentStore + Drop> Shelf<S> {
             .map_err(NotDone::NoAccess)?;
         Ok(Done::Shows(shown(self.heap, &buffer)?))
     }
+}
+
+// What came of a call that may end a segment.
+fn standing(answer: Result<bool, BadHandle>) -> Result<Done, CallError> {
+    Ok(answer.map(Done::Stands).map_err(NotDone::BadHandle)?)
 }
 
 // Bytes as text, with a '.' for what is no visible character.

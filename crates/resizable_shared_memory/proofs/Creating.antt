@@ -2,9 +2,10 @@
 use Rattle.std.proofs.Common.{◌≡◌, ℕ, Bool, true, List, ◌∷◌, replicate, Some, Ok, Err, Result, sym, refl, ap, ◌∙◌, subst₂, ⊎_elim, arith}
 use Rattle.std.proofs.lemmas.Bool.{cases_eq}
 use Rattle.shared_memory.specs.declared.fault.BadHandle.{BadHandle}
-use Rattle.shared_memory.specs.declared.fault.Opened.{Opened}
+use Rattle.shared_memory.specs.declared.opened.Opened.{Opened}
 use Rattle.shared_memory.specs.Meaning.{Store, Segment, Same, SameSegmentsAndRoom, Made, Left, Withdraws, nameless}
 use Rattle.shared_memory.specs.Meaning.Left.{stands, ceased}
+use Rattle.shared_memory.specs.Optional.{same_some}
 use Rattle.shm_allocator.specs.Meaning.{Meaning}
 use Rattle.resizable_shared_memory.specs.Creation.{Becomes, Completes}
 use Rattle.resizable_shared_memory.specs.Withdrawals.{Withdrawn}
@@ -13,9 +14,6 @@ use Rattle.resizable_shared_memory.specs.declared.record.CreationRecord.{Creatio
 
 pub same_room : {s t : Store} → Same s t → SameSegmentsAndRoom s t
 same_room same = record { at = same.at; room_without = same.room_without }
-
-some_same : {X : Type 0} (x y : X) → Some x ≡ Some y → x ≡ y
-some_same x y e = cc
 
 -- A segment was made, something was denied after that, and the segment is withdrawn.
 module _ (s between b t : Store) (n : List ℕ) (size kind : ℕ) (o : Opened) (made : Made s n size kind o between) (denied : Same between b) where
@@ -37,7 +35,7 @@ module _ (s between b t : Store) (n : List ℕ) (size kind : ℕ) (o : Opened) (
 
   withdrawn : (r : Result Bool BadHandle) → Withdraws b o.handle r t → SameSegmentsAndRoom s t
   withdrawn (Err e) x = absurd (x.1 (new, n, here, refl))
-  withdrawn (Ok still) x = gone_again x.0 (some_same x.0 new (sym x.2 ∙ here)) x.4
+  withdrawn (Ok still) x = gone_again x.0 (same_some x.2 here) x.4
 
   pub undone : Withdrawn b o.handle t → SameSegmentsAndRoom s t
   undone w = withdrawn w.0 w.1

@@ -2,7 +2,7 @@
 use Rattle.std.proofs.Common.{◌≡◌, ℕ, ◌+◌, ◌-◌, Bool, List, Some, Ok, Err, Result, sym, ap, ◌∙◌, subst₂, ⊎_elim, arith}
 use Rattle.std.proofs.lemmas.Bool.{cases_eq}
 use Rattle.shared_memory.specs.Optional.{none_some, same_some}
-use Rattle.shared_memory.specs.declared.fault.Opened.{Opened}
+use Rattle.shared_memory.specs.declared.opened.Opened.{Opened}
 use Rattle.shared_memory.specs.declared.fault.BadHandle.{BadHandle}
 use Rattle.shared_memory.specs.Meaning.{Store, Segment, Same, Changes, MapsMore, Closes, Left, mapped, unmapped}
 use Rattle.shared_memory.specs.Meaning.Left.{stands, ceased}

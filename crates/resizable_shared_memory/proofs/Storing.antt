@@ -1,14 +1,11 @@
--- Stores that are the same, and segments that are made or denied.
-use Rattle.std.proofs.Common.{◌≡◌, ℕ, ◌≤◌, true, List, Ok, Err, Result, refl, subst, subst₂, arith}
-use Rattle.shared_memory.specs.declared.fault.Opened.{Opened}
+-- Segments that are made or denied.
+use Rattle.std.proofs.Common.{◌≡◌, ℕ, ◌≤◌, true, List, Ok, Err, Result, subst, subst₂, arith}
+use Rattle.shared_memory.specs.declared.opened.Opened.{Opened}
 use Rattle.shared_memory.specs.declared.fault.SharedMemoryCreateError.{SharedMemoryCreateError}
-use Rattle.shared_memory.specs.Meaning.{Store, Same, GoodName, Named, Made, Makes, MakeDenied}
+use Rattle.shared_memory.specs.Meaning.{Store, GoodName, Named, Made, Makes, MakeDenied}
 use Rattle.shm_allocator.specs.declared.SharedMemorySetupHint.{SharedMemorySetupHint}
 use Rattle.shm_allocator.specs.Meaning.{Meaning}
 use Rattle.resizable_shared_memory.specs.Segments.{SegmentDenied, MakesSegment}
-
-pub same : (s : Store) → Same s s
-same s = record { at = λ h. refl; room_without = λ hs z. refl; room_with = λ k z. refl }
 
 -- What came of the wish for a segment, under other terms for its name and its hint.
 pub made_as : {A C : Type 0} (α : Meaning A C) (s t : Store) (r : Result Opened SharedMemoryCreateError) {m n : List ℕ} {g h : SharedMemorySetupHint C} → m ≡ n → g ≡ h

@@ -1,9 +1,10 @@
 -- What is left of a table's invariant when a place is put, left or lowered.
-use Rattle.std.proofs.Common.{◌≡◌, ℕ, ◌+◌, ◌<◌, ◌≤◌, true, false, List, [], ◌∷◌, ◌++◌, is_some, Some, None, Option, sym, refl, ap, ◌∙◌, subst, ⊎_elim, arith}
+use Rattle.std.proofs.Common.{◌≡◌, ℕ, ◌+◌, ◌<◌, ◌≤◌, true, List, [], ◌∷◌, ◌++◌, is_some, Some, None, Option, sym, refl, ap, ◌∙◌, subst, ⊎_elim, arith}
 use Rattle.std.proofs.lemmas.List.{get_or_past}
 use Rattle.std.proofs.lemmas.Bool.{cases_eq, cases_lt, both_ways}
 use Rattle.std.specs.List.{remove}
 use Rattle.shared_memory.specs.Meaning.{Store}
+use Rattle.shared_memory.specs.Optional.{is_none}
 use Rattle.pointer_offset.specs.Packing.{id_of}
 use Rattle.resizable_shared_memory.specs.Entries.{Entry, entry, tally}
 use Rattle.resizable_shared_memory.specs.Ledgers.{entries_of, Lists, Counted}
@@ -16,13 +17,10 @@ use Rattle.resizable_shared_memory.specs.declared.table.Table.{Table}
 use Rattle.resizable_shared_memory.proofs.Listing.{length_of}
 use Rattle.resizable_shared_memory.proofs.Tallying.{one, one_here, none_here, tally_push, tally_removed}
 
-pub some_of : {X : Type 0} (o : Option X) → is_some o ≡ true → (x : X) × (o ≡ Some x)
-some_of None e = absurd (both_ways false refl e)
-some_of (Some x) e = (x, refl)
-
-pub none_of : {X : Type 0} (o : Option X) → is_some o ≡ false → o ≡ None
-none_of None e = refl
-none_of (Some x) e = absurd (both_ways true e refl)
+-- What counts something is there.
+pub counted_some : (o : Option Place) → 1 ≤ count_of o → is_some o ≡ true
+counted_some None h = absurd (omega arith)
+counted_some (Some p) h = refl
 
 -- A mapped place has an id below 256.
 pub mapped_below : (t : Table) (k : ℕ) → is_some (place_of t k) ≡ true → k < 256
@@ -49,7 +47,7 @@ Others t i u = (j : ℕ) → (j ≡ i → ⊥) → place_of u j ≡ place_of t j
 -- A place at an id is one that the id is not past.
 pub within_ahead : (t : Table) (i c : ℕ) → 1 ≤ count_of (place_of t i) → Ahead t c → i ≤ c
 within_ahead t i c some ahead =
-    ⊎_elim (λ (h : c < i). absurd (omega (arith, ap count_of (none_of (place_of t i) (ahead i h))))) (λ (h : i ≤ c). h) (cases_lt c i)
+    ⊎_elim (λ (h : c < i). absurd (omega (arith, ap count_of (is_none (place_of t i) (ahead i h))))) (λ (h : i ≤ c). h) (cases_lt c i)
 
 pub ahead_others : (t u : Table) (i c : ℕ) → i ≤ c → Others t i u → Ahead t c → Ahead u c
 ahead_others t u i c le others ahead j lt = ap is_some (others j (omega arith)) ∙ ahead j lt

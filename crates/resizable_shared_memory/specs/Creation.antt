@@ -1,7 +1,7 @@
 -- How a memory is created: first a record of numbers, then the memory.
 use Rattle.std.specs.Prelude.{◌≡◌, ℕ, true, List, Ok, Err, Result, refl}
 use Rattle.std.proofs.Common.{lit≤}
-use Rattle.shared_memory.specs.declared.fault.Opened.{Opened}
+use Rattle.shared_memory.specs.declared.opened.Opened.{Opened}
 use Rattle.shared_memory.specs.declared.fault.SharedMemoryCreateError.{SharedMemoryCreateError}
 use Rattle.shared_memory.specs.BaseNames.{GoodBase}
 use Rattle.shared_memory.specs.Meaning.{Store, SameSegmentsAndRoom, create_number}

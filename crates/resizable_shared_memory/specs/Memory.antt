@@ -1,7 +1,7 @@
 -- What each call of a memory does.
 use Rattle.std.specs.Prelude.{◌≡◌, ℕ, ◌+◌, ◌-◌, ◌^◌, ◌<◌, ◌≤◌, ◌⊎◌, List, [], ◌∷◌, ◌++◌, length, Some, None, Ok, Err, Result, ◌≢◌}
 use Rattle.pointer_offset.specs.Packing.{offset_of, id_of}
-use Rattle.shared_memory.specs.declared.fault.Opened.{Opened}
+use Rattle.shared_memory.specs.declared.opened.Opened.{Opened}
 use Rattle.shared_memory.specs.declared.fault.SharedMemoryCreateError.{SharedMemoryCreateError}
 use Rattle.shared_memory.specs.Meaning.{Store, Same, Writes, AccessDenied}
 use Rattle.shared_memory.specs.Names.{segment_name}

@@ -5,7 +5,7 @@ use Rattle.pointer_offset.specs.declared.segment_id.SegmentId.{SegmentId}
 use Rattle.shared_memory.specs.BaseNames.{GoodBase}
 use Rattle.shared_memory.specs.Meaning.{Store, Same, Opens, OpenDenied}
 use Rattle.shared_memory.specs.Names.{text, segment_name, management_name}
-use Rattle.shared_memory.specs.declared.fault.Opened.{Opened}
+use Rattle.shared_memory.specs.declared.opened.Opened.{Opened}
 use Rattle.resizable_shared_memory.specs.Closings.{Closed, ClosesAll}
 use Rattle.resizable_shared_memory.specs.Places.{place_of, handles, active, Numbers}
 use Rattle.resizable_shared_memory.specs.ViewFaults.{open_for_number, view_open_number, register_number, unregister_number, viewer_closed_number, close_number}

@@ -1,10 +1,8 @@
-ghost use Rattle.std.specs.Prelude.{◌^◌, ◌<◌};
-
-use shared_memory::fault::Opened;
 use shared_memory::name::BaseName;
+use shared_memory::opened::Opened;
 use shm_allocator::AllocationStrategy;
 
-// What a creation made, in numbers: the memory is yet to be made of it.
+// What a creation made. The memory is yet to be made of it.
 #[derive(Drop)]
 pub struct CreationRecord<C> {
     pub(crate) base: BaseName,
@@ -13,5 +11,4 @@ pub struct CreationRecord<C> {
     pub(crate) segment: Opened,
     pub(crate) payload_size: u32,
     pub(crate) config: C,
-    ghost low: { segment.address < 2 ^ 63 },
 }

@@ -1,12 +1,12 @@
 // Ported from src/resizable_shared_memory/dynamic.rs of crate iceoryx2-cal 0.9.3; see NOTICE.
 
 ghost use Rattle.resizable_shared_memory.specs.Segments.{MakesSegment};
-ghost use Rattle.shared_memory.specs.Meaning.{GoodName};
 ghost use Rattle.shared_memory.specs.Names.{written};
 
 use shared_memory::SegmentStore;
-use shared_memory::fault::{Opened, SharedMemoryCreateError};
+use shared_memory::fault::SharedMemoryCreateError;
 use shared_memory::name::SegmentName;
+use shared_memory::opened::Opened;
 use shm_allocator::{SharedMemorySetupHint, ShmAllocator};
 
 // Makes a segment for an allocator that is to be set up from a hint.
@@ -15,7 +15,6 @@ pub(crate) fn make_segment<A: ShmAllocator, S: SegmentStore>(
     name: &SegmentName,
     hint: SharedMemorySetupHint<A::Configuration>,
 ) -> Result<Opened, SharedMemoryCreateError>
-    requires { GoodName (written name.now) }
     ensures { MakesSegment A.ShmAllocator.means (S.SegmentStore.means store.old) (written name.now) hint result (S.SegmentStore.means store.new) }
 {
     if hint.payload_size == 0 {

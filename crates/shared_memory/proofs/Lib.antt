@@ -1,9 +1,8 @@
 pub mod Naming
 mod Overwriting
 mod Slotted
-mod Sounds
+pub mod Sounds
 mod Ruled
 mod Tabled
 mod Totals
 mod Limits
-mod Placed

@@ -3,7 +3,7 @@ use Rattle.std.proofs.Common.{◌≡◌, ℕ, ◌+◌, ◌<◌, ◌≤◌, Bool,
 use Rattle.std.proofs.lemmas.List.{length-replicate}
 use Rattle.std.proofs.lemmas.Bool.{cases_eq, le-leb, leb-true, and_parts, and_from, and_left, and_right}
 use Rattle.shared_memory.specs.declared.fault.BadHandle.{BadHandle}
-use Rattle.shared_memory.specs.declared.fault.Opened.{Opened}
+use Rattle.shared_memory.specs.declared.opened.Opened.{Opened}
 use Rattle.shared_memory.specs.declared.fault.SharedMemoryCreateError.{SharedMemoryCreateError}
 use Rattle.shared_memory.specs.declared.fault.SharedMemoryOpenError.{SharedMemoryOpenError}
 use Rattle.shared_memory.specs.declared.fault.AccessError.{AccessError}

@@ -1,5 +1,5 @@
 -- What is read of bytes that were written over.
-use Rattle.std.proofs.Common.{◌≡◌, ℕ, ◌+◌, ◌-◌, ◌<◌, ◌≤◌, ◌⊎◌, List, length, get_or, drop, sym, refl, ap, ◌∙◌, ⊎_elim, arith}
+use Rattle.std.proofs.Common.{◌≡◌, ℕ, ◌+◌, ◌-◌, ◌<◌, ◌≤◌, ◌⊎◌, List, length, get_or, take, drop, replicate, sym, refl, ap, ◌∙◌, ⊎_elim, arith}
 use borrow.Rule.Slice.PartMut.{put_mid}
 use Rattle.std.proofs.lemmas.List.{same_lists, places, length-take, length-drop, length-append, get_or-take, get_or-drop}
 use Rattle.std.proofs.lemmas.Bool.{cases_lt}
@@ -9,6 +9,12 @@ use Rattle.shared_memory.specs.Meaning.{part, patched}
 
 pub put_mid_patched : (xs ys new : List ℕ) (a k : ℕ) → ys ≡ new → length new ≡ k → put_mid a k xs ys ≡ patched xs a new
 put_mid_patched xs ys new a k e n = put_mid-paste a k xs ys new (length new) e n refl ∙ paste_all xs a new (length new) refl
+
+-- a part that was filled with zeros
+pub zeros_in : (xs ys : List ℕ) (at n : ℕ) → at + n ≤ length xs → ys ≡ replicate (length (take (at + n - at) (drop at xs))) 0 → ys ≡ replicate n 0
+zeros_in xs ys at n fit e =
+    let long : length (take (at + n - at) (drop at xs)) ≡ n = simp (length-take, length-drop) (omega arith) in
+    e ∙ ap (λ k. replicate {A = ℕ} k 0) long
 
 module _ (xs new : List ℕ) (at : ℕ) (fit : at + length new ≤ length xs) where
   pub length_patched : length (patched xs at new) ≡ length xs

@@ -1,7 +1,7 @@
 -- What a store with a rule of placing means, as a segment changes, ceases or is made.
 use Rattle.std.proofs.Common.{◌≡◌, ℕ, ◌^◌, ◌<◌, ◌≤◌, true, List, [], ◌∷◌, length, set, replicate, is_some, Some, None, Option, sym, refl, ap, ◌∙◌, subst, inl, inr, ⊎_elim, arith}
 use Rattle.std.proofs.lemmas.List.{length-replicate, set_comm}
-use Rattle.shared_memory.specs.declared.fault.Opened.{Opened}
+use Rattle.shared_memory.specs.declared.opened.Opened.{Opened}
 use Rattle.shared_memory.specs.declared.table.Place.{Place}
 use Rattle.shared_memory.specs.Extents.{Extent, Extents, extent_at, laid, occupied, filled_in, vacated, Rule, ruled, FreePlace, Monotone, StillLeave}
 use Rattle.shared_memory.specs.Meaning.{Segment, Store, Apart, GoodName, GoodAddress, Named, Changes, Ceases, Made}
@@ -35,8 +35,8 @@ module _ (rule : Rule) (old new : ℕ → Option Segment) (es : Extents) (h : �
       T = ruled rule new (set es h None)
 
 -- what was told of a segment made at a place
-abbrev pub opened : Place → ℕ → Opened
-opened p kind = record { handle = p.handle; address = p.start; allocator_id = kind }
+abbrev pub opened : (p : Place) → ℕ → p.start < 2 ^ 63 → Opened
+opened p kind low = record { handle = p.handle; address = p.start; allocator_id = kind; low = low }
 
 abbrev pub zeroed : List ℕ → Place → ℕ → ℕ → Segment
 zeroed n p size kind = record { name = Some n; kind = kind; bytes = replicate size 0; address = p.start; maps = 1 }
@@ -79,8 +79,8 @@ module _ (old new : ℕ → Option Segment) (es : Extents) (told : Told old es) 
         let (e, found, start, long) = told k g q in
         subst (λ z. is_some (rule (set (occupied es p size) k None) z) ≡ true) long (leave k e found (subst (λ z. is_some (rule (set es k None) z) ≡ true) (sym long) (room k g q))))
 
-    pub made : (Named S n → ⊥) → Made S n size kind (opened p kind) T
-    made fresh =
+    pub made : (low : p.start < 2 ^ 63) → (Named S n → ⊥) → Made S n size kind (opened p kind low) T
+    made low fresh =
         record {
           good_name = good;
           sized = sized;

@@ -33,9 +33,6 @@ module _ (slots : List (Option Slot)) where
   pub extent_none : (h : ℕ) → extent_at (extents_in slots) h ≡ None → slot_at slots h ≡ None
   extent_none h e = over_none extent (slot_at slots h) (sym (extent_over slots h) ∙ e)
 
-  slot_none : (h : ℕ) → slot_at slots h ≡ None → extent_at (extents_in slots) h ≡ None
-  slot_none h e = extent_over slots h ∙ ap (over extent) e
-
   pub length_extents : length (extents_in slots) ≡ length slots
   length_extents = length-map slots (over extent)
 

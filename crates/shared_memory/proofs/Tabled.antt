@@ -1,5 +1,6 @@
 -- What a table means, as a slot is put, bytes are stored over, or a segment is made.
 use Rattle.std.proofs.Common.{◌≡◌, ℕ, ◌+◌, ◌^◌, ◌<◌, ◌≤◌, Bool, true, false, not, ◌⊎◌, List, length, set, replicate, is_some, Some, None, vec_items, Err, MatchBool, Option, sym, refl, ap, ◌∙◌, subst, ⊎_elim, arith}
+use borrow.Rule.Slice.PartMut.{put_mid}
 use Rattle.std.proofs.lemmas.List.{length-replicate, with_items_is}
 use Rattle.std.proofs.lemmas.Bool.{both_ways}
 use Rattle.std.specs.Vec.{with_items}
@@ -12,15 +13,15 @@ use Rattle.shared_memory.specs.declared.table.Place.{Place}
 use Rattle.shared_memory.specs.declared.table.SegmentTable.{SegmentTable}
 use Rattle.shared_memory.specs.declared.table.Slot.{Slot}
 use Rattle.shared_memory.specs.Extents.{Extents, extent_at, laid, occupied, Rule, ruled, Paged, Within, Disjoint, Lie, FreePlace, Monotone, StillLeave}
-use Rattle.shared_memory.specs.Meaning.{AccessDenied, access_number, Empty, Same, Named, GoodName, MakeDenied, GoodAddress, Changes, Ceases, Left, stands, ceased, Made, patched, filled, part}
+use Rattle.shared_memory.specs.Meaning.{AccessDenied, access_number, Empty, Same, Named, GoodName, MakeDenied, GoodAddress, Changes, Ceases, Left, stands, ceased, size_at, Made, patched, filled, part}
 use Rattle.shared_memory.specs.Slots.{stored, name_of, extent, slot_at, segments_in, extents_in}
 use Rattle.shared_memory.specs.Tables.{slots_of, bytes_of, memory, segment_of, segments, extents, under, Puts, Patches, Relaid, Follows, Finds, Locates}
 use Rattle.shared_memory.specs.Laying.{all_free, lie_free, lie_vacated, lie_occupied, meet_turned}
 use Rattle.shared_memory.specs.Optional.{inside, none_some, is_none as none_is, over_none}
-use Rattle.shared_memory.proofs.Overwriting.{length_patched, part_part, part_written}
+use Rattle.shared_memory.proofs.Overwriting.{put_mid_patched, length_patched, part_part, part_written}
 use Rattle.shared_memory.proofs.Ruled.{opened, zeroed, changes, ceases, made}
 use Rattle.shared_memory.proofs.Slotted as slotted
-use Rattle.shared_memory.proofs.Sounds.{roomless}
+use Rattle.shared_memory.proofs.Sounds.{roomless, size_of}
 
 pub lies : (s : SegmentTable) → Lie (extents s) (memory s)
 lies s = record { paged = s.paged; within = s.within; disjoint = s.disjoint }
@@ -32,14 +33,23 @@ Facts slots bytes = record { few : length slots ≤ 320; small : length bytes < 
 pub facts : (slots : List (Option Slot)) (bytes : List ℕ) → length slots ≤ 320 → length bytes < 2 ^ 63 → Lie (extents_in slots) (length bytes) → Facts slots bytes
 facts slots bytes few small l = record { few = few; small = small; paged = l.paged; within = l.within; disjoint = l.disjoint }
 
--- the memory was stored over as a whole
-module _ (s : SegmentTable) (all : List ℕ) (e : length all ≡ s.bytes.len) where
-  pub refilled_bytes : vec_items (with_items s.bytes all) ≡ all
-  refilled_bytes = with_items_is s.bytes all e
+-- bytes were stored over a part of the memory
+module _ (s : SegmentTable) (seen ys new : List ℕ) (at k : ℕ) (whole : seen ≡ bytes_of s) (stored : ys ≡ new) (n : length new ≡ k) (fit : at + k ≤ memory s) where
+  abbrev all : List ℕ
+  all = put_mid at k seen ys
 
-  pub refilled_facts : Facts (slots_of s) (vec_items (with_items s.bytes all))
-  refilled_facts =
-      let long = ap length refilled_bytes ∙ (e ∙ s.bytes.ok.0) in
+  over_part : all ≡ patched (bytes_of s) at new
+  over_part = put_mid_patched seen ys new at k stored n ∙ ap (λ xs. patched xs at new) whole
+
+  as_long : length all ≡ memory s
+  as_long = ap length over_part ∙ length_patched (bytes_of s) new at (omega (arith, n, fit))
+
+  pub stored_bytes : vec_items (with_items s.bytes all) ≡ patched (bytes_of s) at new
+  stored_bytes = with_items_is s.bytes all (as_long ∙ sym s.bytes.ok.0) ∙ over_part
+
+  pub stored_facts : Facts (slots_of s) (vec_items (with_items s.bytes all))
+  stored_facts =
+      let long = ap length (with_items_is s.bytes all (as_long ∙ sym s.bytes.ok.0)) ∙ as_long in
       facts (slots_of s) _ s.few (omega (arith, s.small, long)) (subst (Lie (extents s)) (sym long) (lies s))
 
 -- nothing stands
@@ -68,6 +78,13 @@ module _ (s : SegmentTable) (h : ℕ) where
 
   pub segment_length : (x : Slot) → slot_at (slots_of s) h ≡ Some x → length (segment_of s x).bytes ≡ x.size
   segment_length x e = slotted.segment_length (slots_of s) (bytes_of s) s.within h x e
+
+  pub slot_size : (rule : Rule) → size_at (under rule s) h ≡ over (λ x. x.size) (slot_at (slots_of s) h)
+  slot_size rule = go (slot_at (slots_of s) h) refl
+    where
+      go : (o : Option Slot) → slot_at (slots_of s) h ≡ o → size_at (under rule s) h ≡ over (λ (x : Slot). x.size) o
+      go None e = ap size_of (at_none e)
+      go (Some x) e = ap size_of (at_slot x e) ∙ ap Some (segment_length x e)
 
   pub good_start : (x : Slot) → slot_at (slots_of s) h ≡ Some x → GoodAddress x.start
   good_start x e = (s.paged h (extent x) (slotted.extent_some (slots_of s) h x e), omega (arith, within_memory x e))
@@ -173,12 +190,12 @@ module _ (s : SegmentTable) (p : Place) (n : StoredName) (size kind : ℕ) (plac
       pub relaid_made : Relaid s (occupied (extents s) p size) t
       relaid_made = record { extents = ap extents_in slots_made ∙ laid_out; memory = ap length q.bytes ∙ same_size }
 
-      pub made_at : (text : List ℕ) → stored n ≡ text → GoodName text → ((rule : Rule) → Named (under rule s) text → ⊥) → 1 ≤ size → (rule : Rule) → rule (extents s) size ≡ Some p → StillLeave rule (extents s) (occupied (extents s) p size) → Made (under rule s) text size kind (opened p kind) (under rule t)
-      made_at text name good fresh sized rule chosen leave =
-          subst (Made (under rule s) text size kind (opened p kind)) (meant rule t slots_made bytes_made relaid_made.extents)
+      pub made_at : (low : p.start < 2 ^ 63) (text : List ℕ) → stored n ≡ text → GoodName text → ((rule : Rule) → Named (under rule s) text → ⊥) → 1 ≤ size → (rule : Rule) → rule (extents s) size ≡ Some p → StillLeave rule (extents s) (occupied (extents s) p size) → Made (under rule s) text size kind (opened p kind low) (under rule t)
+      made_at low text name good fresh sized rule chosen leave =
+          subst (Made (under rule s) text size kind (opened p kind low)) (meant rule t slots_made bytes_made relaid_made.extents)
           (made (segments s) _ (extents s) (slotted.told (slots_of s) (bytes_of s) s.within) (omega (arith, s.few, slotted.length_extents (slots_of s))) (memory s) s.small p text size kind place good sized
           (slotted.at_none (slots_of s) (bytes_of s) p.handle (slotted.extent_none (slots_of s) p.handle place.free))
-          here others rule chosen leave (fresh rule))
+          here others rule chosen leave low (fresh rule))
         where
           B : List ℕ
           B = patched (bytes_of s) p.start zeros

@@ -1,10 +1,10 @@
 -- The rule of placing of equal frames, and what it keeps.
-use Rattle.std.proofs.Common.{◌≡◌, ℕ, ◌+◌, ◌*◌, ◌/◌, ◌%◌, ◌<◌, ◌≤◌, Bool, true, false, cond, ◌&&◌, leb, length, set, replicate, is_some, Some, None, Option, sym, refl, ap, ◌∙◌, subst, ⊎_elim, mul-le-mul_right, mul_assoc, add-mul, one-mul, arith}
+use Rattle.std.proofs.Common.{◌≡◌, ℕ, ◌+◌, ◌*◌, ◌/◌, ◌%◌, ◌<◌, ◌≤◌, Bool, true, false, cond, ◌&&◌, leb, length, set, is_some, Some, None, Option, sym, refl, ap, ◌∙◌, subst, ⊎_elim, mul-le-mul_right, mul_assoc, add-mul, one-mul, arith}
 use native.Mathlib.Nat.{mul-mod_left}
 use Rattle.std.proofs.Props.{props}
 use Rattle.std.proofs.Math.Logic.{∥∥₁_elim}
 use Rattle.std.proofs.lemmas.Nat.{div-add-mod'}
-use Rattle.std.proofs.lemmas.List.{length-set, length-replicate}
+use Rattle.std.proofs.lemmas.List.{length-set}
 use Rattle.std.proofs.lemmas.Bool.{cases_order, leb-true, and_parts, and_from, and_right}
 use Rattle.std.specs.Option.{option_map as over}
 use Rattle.shared_memory.specs.declared.frame_store.Frames.{Frames}
@@ -12,7 +12,7 @@ use Rattle.shared_memory.specs.declared.table.Place.{Place}
 use Rattle.shared_memory.specs.Extents.{Extent, Extents, extent_at, laid, occupied, free, first_free, Meet, FreePlace, Monotone, StillLeave}
 use Rattle.shared_memory.specs.Frames.{frame_place, frame_rule, Framed}
 use Rattle.shared_memory.specs.Placings.{Lawful}
-use Rattle.shared_memory.specs.Laying.{by_put, all_free, first_free_is, free_first, free_vacated, free_still}
+use Rattle.shared_memory.specs.Laying.{by_put, first_free_is, free_first, free_vacated, free_still}
 use Rattle.shared_memory.specs.Optional.{inside, none_some, same_some, over_some, some_over}
 
 -- there is room exactly when a frame is free and the size fits it
@@ -57,14 +57,6 @@ chosen_frame fs es size p e = go (leb size fs) refl e
     go : (b : Bool) → leb size fs ≡ b → cond b (over (frame_place fs) (first_free es)) None ≡ Some p → Chosen fs es size p
     go true l q = let (h, f, same) = over_some (frame_place fs) (first_free es) p q in (leb-true size fs l, h, f, same)
     go false l q = absurd (none_some refl q)
-
-pub frames_free : (n m fs : ℕ) → m ≡ n * fs → Framed (replicate n None) m fs
-frames_free n m fs e =
-    record {
-      whole = e ∙ ap (λ k. k * fs) (sym (length-replicate {A = Option Extent} n None));
-      aligned = λ h u p. absurd (none_some (all_free n h) p);
-      fitting = λ h u p. absurd (none_some (all_free n h) p);
-    }
 
 module _ (es : Extents) (m fs : ℕ) (f : Framed es m fs) where
   pub frame_within : (h : ℕ) → h < length es → h * fs + fs ≤ m

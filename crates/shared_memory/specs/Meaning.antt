@@ -1,6 +1,6 @@
 -- What a segment store means, and what each of its calls does.
 use Rattle.std.specs.Prelude.{◌≡◌, ℕ, ◌+◌, ◌-◌, ◌%◌, ◌^◌, ◌<◌, ◌≤◌, Bool, true, false, ◌⊎◌, List, [], ◌∷◌, ◌++◌, length, take, drop, replicate, Some, None, Ok, Err, Option, Result, ◌≢◌}
-use Rattle.shared_memory.specs.declared.fault.Opened.{Opened}
+use Rattle.shared_memory.specs.declared.opened.Opened.{Opened}
 use Rattle.shared_memory.specs.declared.fault.SharedMemoryCreateError.{SharedMemoryCreateError}
 use Rattle.shared_memory.specs.declared.fault.SharedMemoryCreateError.TheVariants as create
 use Rattle.shared_memory.specs.declared.fault.SharedMemoryOpenError.{SharedMemoryOpenError}

@@ -1,8 +1,8 @@
 -- What an optional value is, by what is known of it, and where it stands in a list.
-use Rattle.std.proofs.Common.{◌≡◌, ℕ, ◌<◌, true, false, List, length, get_or, is_some as option_is_some, Some, None, Err, Option, Result, refl, ◌∙◌, ⊎_elim, arith}
+use Rattle.std.proofs.Common.{◌≡◌, ℕ, ◌<◌, true, false, List, length, get_or, is_some as option_is_some, Some, None, Err, Option, Result, refl, ap, ◌∙◌, ⊎_elim, arith}
 use Rattle.std.proofs.lemmas.List.{get_or_past}
 use Rattle.std.proofs.lemmas.Bool.{cases_lt}
-use Rattle.std.specs.Option.{SomeIff, ok_or, option_map as over}
+use Rattle.std.specs.Option.{MatchOption, IsSomeAnd, SomeIff, ok_or, option_map as over}
 
 pub none_some : {X : Type 0} {o : Option X} {x : X} → o ≡ None → o ≡ Some x → ⊥
 none_some {o = o} {x = x} p q = let z : ◌≡◌ {A = ℕ} 0 1 = cc in omega arith
@@ -29,6 +29,12 @@ over_some f (Some x) y e = (x, refl, same_some refl e)
 pub some_over : {X Y : Type 0} (f : X → Y) (o : Option X) → option_is_some (over f o) ≡ option_is_some o
 some_over f None = refl
 some_over f (Some x) = refl
+
+-- what `map` gave, where each call gave what f does
+pub mapped : {X Y : Type 0} (f : X → Y) {P : X → Y → Type 0} (o : Option X) (r : Option Y) → MatchOption o (r ≡ None) (λ x. IsSomeAnd r (P x)) → ((x : X) (y : Y) → P x y → y ≡ f x) → r ≡ over f o
+mapped f None r m e = m
+mapped f (Some x) (Some y) m e = ap Some (e x y m)
+mapped f (Some x) None m e = absurd m
 
 -- what stands in a list stands before its end
 pub inside : {X : Type 0} (xs : List (Option X)) (h : ℕ) {x : X} → get_or xs h None ≡ Some x → h < length xs

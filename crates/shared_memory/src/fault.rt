@@ -123,11 +123,3 @@ impl<S> Denial for NotEmpty<S> {
         6
     }
 }
-
-// What make and open answer.
-#[derive(Clone, Copy, PartialEq, Eq, Debug)]
-pub struct Opened {
-    pub handle: u16,
-    pub address: u64,
-    pub allocator_id: u8,
-}

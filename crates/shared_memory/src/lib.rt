@@ -4,11 +4,13 @@
 ghost use Rattle.shared_memory.specs.Meaning.{Store, room, Empty, Named, Makes, Opens, Withdraws, Closes, Reads, Writes, size_at};
 ghost use Rattle.std.specs.Prelude.{◌≡◌, MatchBool};
 
-use fault::{AccessError, BadHandle, Opened, SharedMemoryCreateError, SharedMemoryOpenError};
+use fault::{AccessError, BadHandle, SharedMemoryCreateError, SharedMemoryOpenError};
+use opened::Opened;
 
 pub mod fault;
 pub mod frame_store;
 pub mod name;
+pub mod opened;
 mod placing;
 pub mod quota_store;
 mod requests;

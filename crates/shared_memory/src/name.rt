@@ -1,4 +1,5 @@
 ghost use Rattle.shared_memory.specs.BaseNames.{GoodBase};
+ghost use Rattle.shared_memory.specs.Meaning.{GoodName};
 
 use arrayvec::ArrayString;
 
@@ -17,6 +18,7 @@ pub struct BaseName {
 #[derive(Clone, Copy)]
 pub struct SegmentName {
     text: ArrayString<32>,
+    ghost good: { GoodName text.bytes },
 }
 
 // A text that is no base name.

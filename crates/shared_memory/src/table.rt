@@ -31,7 +31,7 @@ pub(crate) struct Place {
     pub(crate) start: usize,
 }
 
-// The segments of a store that owns their memory. Where a new one lies is the store's to say.
+// The segments of a store that owns their memory. Where a new one lies is said by `Placing`.
 #[derive(Drop)]
 pub(crate) struct SegmentTable {
     slots: Vec<Option<Slot>>,

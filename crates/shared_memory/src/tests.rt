@@ -6,12 +6,9 @@ use pointer_offset::Denial;
 use std::process::Abort;
 use std::test::Fail;
 
-// The number of a denial, or 0.
-fn number_of<T: Drop, E: Denial + Drop>(answer: Result<T, E>) -> u8 {
-    match answer {
-        Ok(_) => 0,
-        Err(error) => error.number(),
-    }
+// The number of a denial, if it is one.
+fn number_of<T: Drop, E: Denial + Drop>(answer: Result<T, E>) -> Option<u8> {
+    answer.err().map(|error| error.number())
 }
 
 // Each of these takes an empty store with room for one segment of up to 4096 bytes, and leaves it empty.
@@ -19,9 +16,9 @@ fn number_of<T: Drop, E: Denial + Drop>(answer: Result<T, E>) -> u8 {
 fn one_segment_fills_it<S: SegmentStore>(rt: &impl Abort, store: &mut S) -> Result<(), Fail> {
     assert!(rt; store.is_empty() && store.has_room(4096));
     let log = store.make(b"log", 4096, 7)?;
-    assert!(rt; store.payload_size(log.handle) == Some(4096));
+    assert_eq!(rt; store.payload_size(log.handle), Some(4096));
     assert!(rt; !store.is_empty() && !store.has_room(1));
-    assert_eq!(rt; number_of(store.make(b"map", 1, 7)), 26);
+    assert_eq!(rt; number_of(store.make(b"map", 1, 7)), Some(26));
     assert_eq!(rt; store.withdraw(log.handle)?, false);
     assert!(rt; store.is_empty() && store.has_room(4096));
     Ok(())
@@ -29,16 +26,16 @@ fn one_segment_fills_it<S: SegmentStore>(rt: &impl Abort, store: &mut S) -> Resu
 
 fn one_byte_too_many<S: SegmentStore>(rt: &impl Abort, store: &mut S) {
     assert!(rt; !store.has_room(4097));
-    assert_eq!(rt; number_of(store.make(b"log", 4097, 7)), 26);
+    assert_eq!(rt; number_of(store.make(b"log", 4097, 7)), Some(26));
     assert!(rt; store.is_empty() && store.has_room(4096));
 }
 
 fn denials_have_an_order<S: SegmentStore>(rt: &impl Abort, store: &mut S) -> Result<(), Fail> {
     let log = store.make(b"log", 4096, 7)?;
-    assert_eq!(rt; number_of(store.make(b"", 0, 7)), 2);
-    assert_eq!(rt; number_of(store.make(&[b'n'; 33], 1, 7)), 2);
-    assert_eq!(rt; number_of(store.make(b"log", 0, 7)), 25);
-    assert_eq!(rt; number_of(store.make(b"log", 1, 7)), 24);
+    assert_eq!(rt; number_of(store.make(b"", 0, 7)), Some(2));
+    assert_eq!(rt; number_of(store.make(&[b'n'; 33], 1, 7)), Some(2));
+    assert_eq!(rt; number_of(store.make(b"log", 0, 7)), Some(25));
+    assert_eq!(rt; number_of(store.make(b"log", 1, 7)), Some(24));
     assert_eq!(rt; store.withdraw(log.handle)?, false);
     Ok(())
 }
@@ -49,7 +46,7 @@ fn a_nameless_segment_takes_room<S: SegmentStore>(
 ) -> Result<(), Fail> {
     let log = store.make(b"log", 4096, 7)?;
     let again = store.open(b"log")?;
-    assert!(rt; again == log);
+    assert_eq!(rt; again, log);
     assert_eq!(rt; store.withdraw(log.handle)?, true);
     assert!(rt; !store.is_named(b"log") && store.open(b"log").is_err());
     assert!(rt; !store.has_room(1));
@@ -73,11 +70,14 @@ fn writes_end_with_the_payload<S: SegmentStore>(
     store: &mut S,
 ) -> Result<(), Fail> {
     let log = store.make(b"log", 10, 7)?;
-    assert_eq!(rt; number_of(store.write(log.handle, 8, b"xy")), 0);
-    assert_eq!(rt; number_of(store.write(log.handle, 9, b"xy")), 5);
-    assert_eq!(rt; number_of(store.write(log.handle, u64::MAX, b"xy")), 5);
+    assert_eq!(rt; number_of(store.write(log.handle, 8, b"xy")), None);
+    assert_eq!(rt; number_of(store.write(log.handle, 9, b"xy")), Some(5));
+    assert_eq!(rt;
+        number_of(store.write(log.handle, u64::MAX, b"xy")),
+        Some(5)
+    );
     assert_eq!(rt; store.withdraw(log.handle)?, false);
-    assert_eq!(rt; number_of(store.write(log.handle, 0, b"xy")), 17);
+    assert_eq!(rt; number_of(store.write(log.handle, 0, b"xy")), Some(17));
     Ok(())
 }
 
@@ -85,16 +85,16 @@ fn reads_end_with_the_payload<S: SegmentStore>(rt: &impl Abort, store: &mut S) -
     let log = store.make(b"log", 10, 7)?;
     store.write(log.handle, 8, b"xy")?;
     let mut buffer = [9; 3];
-    assert_eq!(rt; number_of(store.read(log.handle, 7, &mut buffer)), 0);
+    assert_eq!(rt; number_of(store.read(log.handle, 7, &mut buffer)), None);
     assert_eq!(rt; buffer, [0, b'x', b'y']);
-    assert_eq!(rt; number_of(store.read(log.handle, 8, &mut buffer)), 5);
-    assert_eq!(rt; number_of(store.read(log.handle, 10, &mut [])), 0);
-    assert_eq!(rt; number_of(store.read(log.handle, 11, &mut [])), 5);
+    assert_eq!(rt; number_of(store.read(log.handle, 8, &mut buffer)), Some(5));
+    assert_eq!(rt; number_of(store.read(log.handle, 10, &mut [])), None);
+    assert_eq!(rt; number_of(store.read(log.handle, 11, &mut [])), Some(5));
     assert_eq!(rt; store.withdraw(log.handle)?, false);
     Ok(())
 }
 
-// Those that stand where a segment ceased.
+// Also where a segment that has ceased left other bytes.
 fn bytes_begin_as_zeros<S: SegmentStore>(rt: &impl Abort, store: &mut S) -> Result<(), Fail> {
     let log = store.make(b"log", 2, 7)?;
     store.write(log.handle, 0, b"xy")?;
@@ -160,7 +160,7 @@ fn the_first_free_frame_is_taken(rt: HostRuntime) -> Result<(), Fail> {
     let one = store.make(b"one", 1, 7)?;
     let two = store.make(b"two", 8192, 8)?;
     assert_eq!(rt; two.address, 8192);
-    assert_eq!(rt; number_of(store.make(b"three", 1, 7)), 26);
+    assert_eq!(rt; number_of(store.make(b"three", 1, 7)), Some(26));
     assert_eq!(rt; store.withdraw(one.handle)?, false);
     assert_eq!(rt; store.make(b"three", 8192, 7)?.address, 0);
     Ok(())
@@ -199,7 +199,7 @@ fn a_quota_is_met_exactly(rt: HostRuntime) -> Result<(), Fail> {
     };
     let log = store.make(b"log", 60, 7)?;
     assert!(rt; store.has_room(40) && !store.has_room(41));
-    assert_eq!(rt; number_of(store.make(b"map", 41, 7)), 26);
+    assert_eq!(rt; number_of(store.make(b"map", 41, 7)), Some(26));
     store.make(b"map", 40, 7)?;
     assert!(rt; store.has_room(0) && !store.has_room(1));
     assert_eq!(rt; store.withdraw(log.handle)?, false);
@@ -215,6 +215,6 @@ fn a_store_that_is_not_empty_comes_back(rt: HostRuntime) -> Result<(), Fail> {
         return Err(Fail::new("empty"));
     };
     assert_eq!(rt; refused.number(), 6);
-    assert!(rt; refused.store.payload_size(log.handle) == Some(1));
+    assert_eq!(rt; refused.store.payload_size(log.handle), Some(1));
     Ok(())
 }

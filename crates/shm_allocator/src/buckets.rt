@@ -6,13 +6,15 @@ use arrayvec::ArrayVec;
 
 mod list;
 
+pub(crate) const MAX_BUCKETS: usize = 1024;
+
 // Which of `count` buckets are free: those in `free`, the next one to give out last, so that giving out and taking
 // back cost the same however many there are.
 #[derive(Drop)]
 pub struct Buckets {
     count: u32,
-    free: ArrayVec<u32, 1024>,
-    taken: [bool; 1024],
+    free: ArrayVec<u32, MAX_BUCKETS>,
+    taken: [bool; MAX_BUCKETS],
     ghost long: { length taken ≡ 1024 },
     ghost few: { count ≤ 1024 },
     ghost inside: { (j : ℕ) → j < array_vec_len free → slice_index free.items j < count },

@@ -11,8 +11,9 @@ use crate::record::CreationRecord;
 use crate::segment::make_segment;
 use pointer_offset::SegmentId;
 use shared_memory::SegmentStore;
-use shared_memory::fault::{Opened, SharedMemoryCreateError};
+use shared_memory::fault::SharedMemoryCreateError;
 use shared_memory::name::BaseName;
+use shared_memory::opened::Opened;
 use shm_allocator::layout::ValidLayout;
 use shm_allocator::{SharedMemorySetupHint, ShmAllocator};
 

@@ -6,7 +6,6 @@ use super::DynamicMemory;
 use crate::fault::ResizableShmAllocationError;
 use crate::segment::make_segment;
 use crate::table::Place;
-use pointer_offset::SegmentId;
 use shared_memory::SegmentStore;
 use shm_allocator::layout::ValidLayout;
 use shm_allocator::{AllocationStrategy, ShmAllocationError, ShmAllocator};
@@ -35,16 +34,17 @@ impl<A: ShmAllocator> DynamicMemory<A> {
     ) -> Result<(), ResizableShmAllocationError>
         ensures { Grows A.ShmAllocator.means self.old (S.SegmentStore.means store.old) layout result self.new (S.SegmentStore.means store.new) }
     {
-        let id = self.tables.current.value();
-        if id == SegmentId::max_segment_id() {
-            return Err(ResizableShmAllocationError::MaxReallocationsReached);
-        }
+        let next = self
+            .tables
+            .current
+            .successor()
+            .ok_or(ResizableShmAllocationError::MaxReallocationsReached)?;
         let hint = self.allocator.resize_hint(layout, self.tables.strategy);
-        let name = self.tables.base.segment(SegmentId::new(id + 1));
+        let name = self.tables.base.segment(next);
         let opened = make_segment::<A, S>(store, &name, hint)?;
         self.allocator = A::set_up(hint.config, hint.payload_size as u32);
         let place = Place::of(opened, self.allocator.bucket());
-        self.tables.advance(place, store);
+        self.tables.advance(next, place, store);
         Ok(())
     }
 }

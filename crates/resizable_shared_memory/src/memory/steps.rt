@@ -1,6 +1,6 @@
 // Ported from src/resizable_shared_memory/dynamic.rs of crate iceoryx2-cal 0.9.3; see NOTICE.
 
-ghost use Rattle.std.specs.Prelude.{◌≡◌, ◌-◌, ◌^◌, ◌<◌, length};
+ghost use Rattle.std.specs.Prelude.{◌≡◌, ◌+◌, ◌-◌, ◌^◌, ◌<◌, length};
 ghost use Rattle.resizable_shared_memory.specs.Ledgers.{entries_of};
 ghost use Rattle.resizable_shared_memory.specs.Moves.{Advances, Begins, Enters, ReleasesHeld, Reaches};
 ghost use Rattle.shared_memory.specs.Names.{text};
@@ -44,9 +44,7 @@ impl Tables {
         requires grants { self.old.given < 2 ^ 64 - 1 }
         ensures { Enters self.old start size result self.new }
     {
-        let Some(place) = self.table.get(self.current) else {
-            unreachable()
-        };
+        let place = self.table.mapped(self.current);
         let held = Held {
             segment: self.current,
             start,
@@ -64,12 +62,11 @@ impl Tables {
     }
 
     // Makes the next segment current, which was opened, and leaves the one that was.
-    pub(super) fn advance<S: SegmentStore>(&mut self, place: Place, store: &mut S)
-        requires below { self.old.current.0 < 255 }
+    pub(super) fn advance<S: SegmentStore>(&mut self, next: SegmentId, place: Place, store: &mut S)
+        requires next { next.0 ≡ self.old.current.0 + 1 }
         requires unused { place.count ≡ 0 }
         ensures { Advances self.old (S.SegmentStore.means store.old) place self.new (S.SegmentStore.means store.new) }
     {
-        let next = SegmentId::new(self.current.value() + 1);
         self.table.leave(self.current, store);
         self.table.put(next, Some(place));
         self.current = next;
@@ -91,9 +88,7 @@ impl Tables {
         ensures { Reaches claim.offset.0 claim.grant self.now result }
     {
         let (_, held) = self.ledger.find(claim)?;
-        let Some(place) = self.table.get(claim.offset.segment_id()) else {
-            unreachable()
-        };
+        let place = self.table.mapped(claim.offset.segment_id());
         Some((held, place))
     }
 }

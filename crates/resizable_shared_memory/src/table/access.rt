@@ -1,15 +1,14 @@
-ghost use Rattle.std.specs.Prelude.{◌≡◌, ℕ, ◌^◌, ◌<◌, None, is_some, count_by};
+ghost use Rattle.std.specs.Prelude.{◌≡◌, ℕ, ◌^◌, ◌<◌, true, Some, None, is_some, count_by};
 ghost use Rattle.resizable_shared_memory.specs.Places.{place_of, handles, active, Numbers, Put};
 
 use super::{Place, Table};
 use arrayvec::ArrayVec;
 use pointer_offset::SegmentId;
-use shared_memory::fault::Opened;
+use shared_memory::opened::Opened;
 
 impl Place {
     // The place of a segment that was just opened.
     pub(crate) fn of(opened: Opened, bucket_size: u32) -> Place
-        requires { opened.address < 2 ^ 63 }
         ensures { Numbers result opened.handle opened.address bucket_size 0 }
     {
         Place {
@@ -20,16 +19,12 @@ impl Place {
         }
     }
 
-    // Field by field, since a struct with a ghost field takes no `..`.
     pub(crate) fn with_count(self, count: u32) -> Place
         ensures { Numbers result self.handle self.address self.bucket_size count }
     {
-        Place {
-            handle: self.handle,
-            address: self.address,
-            bucket_size: self.bucket_size,
-            count,
-        }
+        let mut place = self;
+        place.count = count;
+        place
     }
 }
 
@@ -46,6 +41,17 @@ impl Table {
         ensures { result ≡ place_of self.now id.0 }
     {
         self.places[id.value() as usize]
+    }
+
+    // The place of an id that is mapped.
+    pub(crate) fn mapped(&self, id: SegmentId) -> Place
+        requires { is_some (place_of self.now id.0) ≡ true }
+        ensures { place_of self.now id.0 ≡ Some result }
+    {
+        let Some(place) = self.get(id) else {
+            unreachable()
+        };
+        place
     }
 
     pub(crate) fn put(&mut self, id: SegmentId, place: Option<Place>)

@@ -15,9 +15,7 @@ impl Table {
         requires { is_some (place_of self.old id.0) ≡ true }
         ensures { Leaves self.old id.0 (S.SegmentStore.means store.old) self.new (S.SegmentStore.means store.new) }
     {
-        let Some(place) = self.get(id) else {
-            unreachable()
-        };
+        let place = self.mapped(id);
         if place.count == 0 {
             let _ = store.withdraw(place.handle);
             self.put(id, None);
@@ -34,9 +32,7 @@ impl Table {
         requires { 1 ≤ count_of (place_of self.old id.0) }
         ensures { Lowers self.old current.0 id.0 (S.SegmentStore.means store.old) self.new (S.SegmentStore.means store.new) }
     {
-        let Some(place) = self.get(id) else {
-            unreachable()
-        };
+        let place = self.mapped(id);
         if place.count > 1 || id == current {
             self.put(id, Some(place.with_count(place.count - 1)));
             return;

@@ -6,8 +6,8 @@ use super::fault::{OpenForError, ViewOpenError};
 use super::{ClosingMark, DynamicView, OpenView, ViewRecord};
 use crate::table::Table;
 use shared_memory::SegmentStore;
-use shared_memory::fault::Opened;
 use shared_memory::name::BaseName;
+use shared_memory::opened::Opened;
 use shm_allocator::ShmAllocator;
 
 // Opens the segment of a name, and closes it again unless it was made for this allocator.

@@ -80,9 +80,7 @@ impl OpenView {
         let Some(id) = self.current else {
             return;
         };
-        let Some(place) = self.table.get(id) else {
-            unreachable()
-        };
+        let place = self.table.mapped(id);
         if place.count > 0 {
             return;
         }

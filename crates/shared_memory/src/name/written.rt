@@ -66,8 +66,7 @@ impl BaseName {
 
     // The name of the segment of this id.
     pub fn segment(&self, id: SegmentId) -> SegmentName
-        ensures text { written result ≡ segment_name (text self.now) id.0 }
-        ensures bound { (1 ≤ length (written result)) × (length (written result) ≤ 32) }
+        ensures { written result ≡ segment_name (text self.now) id.0 }
     {
         let mut digits = Buffer::new();
         let mut name = self.followed_by("__");
@@ -77,8 +76,7 @@ impl BaseName {
 
     // The name of the management segment.
     pub fn management(&self) -> SegmentName
-        ensures text { written result ≡ management_name (text self.now) }
-        ensures bound { (1 ≤ length (written result)) × (length (written result) ≤ 32) }
+        ensures { written result ≡ management_name (text self.now) }
     {
         self.followed_by("__mgmt")
     }

@@ -4,8 +4,9 @@ ghost use Rattle.shared_memory.specs.Quotas.{used, limited, QuotaStart};
 use super::QuotaStore;
 use crate::SegmentStore;
 use crate::fault::{
-    AccessError, BadHandle, NotEmpty, Opened, SharedMemoryCreateError, SharedMemoryOpenError,
+    AccessError, BadHandle, NotEmpty, SharedMemoryCreateError, SharedMemoryOpenError,
 };
+use crate::opened::Opened;
 use crate::requests::check_request;
 use crate::table::MAX_HANDLES;
 

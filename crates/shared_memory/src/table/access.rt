@@ -6,22 +6,6 @@ ghost use Rattle.shared_memory.specs.Tables.{memory, extents, under, Locates, Pa
 use super::SegmentTable;
 use crate::fault::AccessError;
 
-// Writes the bytes over those that stand from a place on.
-fn overwrite(all: &mut [u8], at: usize, bytes: &[u8])
-    requires { at + length bytes.now ≤ length all.old }
-    ensures { all.new ≡ patched all.old at bytes.now }
-{
-    all[at..at + bytes.len()].copy_from_slice(bytes);
-}
-
-// Writes zeros over the bytes that stand from a place on.
-fn clear(all: &mut [u8], at: usize, size: usize)
-    requires { at + size ≤ length all.old }
-    ensures { all.new ≡ patched all.old at (replicate size 0) }
-{
-    all[at..at + size].fill(0);
-}
-
 // Reads the bytes that stand from a place on.
 fn copy_out(all: &[u8], at: usize, buffer: &mut [u8])
     requires { at + length buffer.old ≤ length all.now }
@@ -44,18 +28,20 @@ impl SegmentTable {
         Ok(slot.start + from)
     }
 
+    // Writes the bytes over those that stand from a place on.
     fn overwrite(&mut self, at: usize, bytes: &[u8])
         requires { at + length bytes.now ≤ memory self.old }
         ensures { Patches self.old at bytes.now self.new }
     {
-        overwrite(self.bytes.as_mut_slice(), at, bytes);
+        self.bytes[at..at + bytes.len()].copy_from_slice(bytes);
     }
 
+    // Writes zeros over the bytes that stand from a place on.
     pub(super) fn clear(&mut self, at: usize, size: usize)
         requires { at + size ≤ memory self.old }
         ensures { Patches self.old at (replicate size 0) self.new }
     {
-        clear(self.bytes.as_mut_slice(), at, size);
+        self.bytes[at..at + size].fill(0);
     }
 
     pub(crate) fn read(&self, handle: u16, from: u64, buffer: &mut [u8]) -> Result<(), AccessError>

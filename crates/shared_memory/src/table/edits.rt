@@ -5,7 +5,8 @@ ghost use Rattle.shared_memory.specs.Slots.{extents_in};
 ghost use Rattle.shared_memory.specs.Tables.{slots_of, memory, extents, under, segment_of, still_laid, Puts, Follows, Relaid};
 
 use super::{SegmentTable, Slot};
-use crate::fault::{BadHandle, Opened, SharedMemoryOpenError};
+use crate::fault::{BadHandle, SharedMemoryOpenError};
+use crate::opened::Opened;
 use crate::requests::is_good_name;
 
 impl SegmentTable {

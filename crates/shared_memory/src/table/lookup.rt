@@ -12,10 +12,7 @@ impl Slot {
     fn is_named(&self, name: &[u8]) -> bool
         ensures { Decides result (name_of self.now ≡ Some name.now) }
     {
-        match &self.name {
-            Some(own) => own.is(name),
-            None => false,
-        }
+        self.name.as_ref().is_some_and(|own| own.is(name))
     }
 }
 
@@ -45,10 +42,10 @@ impl SegmentTable {
         ensures { Finds self.now name.now result }
     {
         for (handle, slot) in self.slots.iter().enumerate() {
-            if let Some(slot) = slot {
-                if slot.is_named(name) {
-                    return Some((handle as u16, *slot));
-                }
+            if let Some(slot) = slot
+                && slot.is_named(name)
+            {
+                return Some((handle as u16, *slot));
             }
         }
         None
@@ -58,8 +55,7 @@ impl SegmentTable {
     pub(crate) fn vacancy(&self) -> Option<u16>
         ensures { result ≡ first_free (extents self.now) }
     {
-        let handle = first_vacant(&self.slots)?;
-        Some(handle as u16)
+        first_vacant(&self.slots).map(|handle| handle as u16)
     }
 
     // The end of a segment that has one of the bytes from `from` on and before `to`.
@@ -86,8 +82,7 @@ impl SegmentTable {
     pub(crate) fn payload_size(&self, handle: u16) -> Option<u64>
         ensures { (rule : Rule) → result ≡ size_at (under rule self.now) handle }
     {
-        let slot = self.slot(handle)?;
-        Some(slot.size as u64)
+        self.slot(handle).map(|slot| slot.size as u64)
     }
 
     pub(crate) fn is_empty(&self) -> bool

@@ -5,7 +5,7 @@ ghost use Rattle.shared_memory.specs.Tables.{memory, extents, under, Relaid};
 
 use super::stored_name::StoredName;
 use super::{Place, SegmentTable, Slot};
-use crate::fault::Opened;
+use crate::opened::Opened;
 use std::alloc::{AllocError, Global};
 
 fn free_handles(heap: Global, handles: usize) -> Result<Vec<Option<Slot>>, AllocError>

@@ -2,9 +2,8 @@ ghost use Rattle.shared_memory.specs.Tables.{under};
 
 use super::TableStore;
 use crate::SegmentStore;
-use crate::fault::{
-    AccessError, BadHandle, Opened, SharedMemoryCreateError, SharedMemoryOpenError,
-};
+use crate::fault::{AccessError, BadHandle, SharedMemoryCreateError, SharedMemoryOpenError};
+use crate::opened::Opened;
 use crate::placing::Placing;
 use crate::requests::check_request;
 

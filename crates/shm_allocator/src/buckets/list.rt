@@ -1,7 +1,7 @@
 ghost use Rattle.std.specs.Prelude.{◌≡◌, ◌<◌, ◌≤◌, true, MatchOption};
 ghost use Rattle.shm_allocator.specs.Buckets.{listed, flag, empty, New, Popped, Pushed};
 
-use super::Buckets;
+use super::{Buckets, MAX_BUCKETS};
 use arrayvec::ArrayVec;
 
 impl Buckets {
@@ -16,7 +16,7 @@ impl Buckets {
         Buckets {
             count,
             free,
-            taken: [false; 1024],
+            taken: [false; MAX_BUCKETS],
         }
     }
 

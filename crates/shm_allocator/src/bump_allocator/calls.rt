@@ -43,10 +43,12 @@ impl ShmAllocator for BumpAllocator {
         layout: ValidLayout,
         strategy: AllocationStrategy,
     ) -> SharedMemorySetupHint<Config> {
-        let mut payload = self.payload as u64;
-        if strategy.grows() && layout.size() >= self.payload - self.mark {
-            payload = strategy.raised(payload + layout.size() as u64);
-        }
+        let present = self.payload as u64;
+        let payload = if strategy.grows() && layout.size() >= self.payload - self.mark {
+            strategy.raised(present + layout.size() as u64)
+        } else {
+            present
+        };
         SharedMemorySetupHint {
             payload_size: payload as u128,
             config: Config {},
@@ -57,11 +59,11 @@ impl ShmAllocator for BumpAllocator {
         0
     }
 
-    fn can_set_up(config: Config, payload: u32) -> bool {
+    fn can_set_up(_config: Config, _payload: u32) -> bool {
         true
     }
 
-    fn set_up(config: Config, payload: u32) -> BumpAllocator {
+    fn set_up(_config: Config, payload: u32) -> BumpAllocator {
         BumpAllocator { payload, mark: 0 }
     }
 

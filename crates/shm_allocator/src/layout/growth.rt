@@ -38,7 +38,7 @@ impl ValidLayout {
     pub(crate) fn rounded(self) -> ValidLayout
         ensures { (result.size ≡ rounded_size self) × (result.align ≡ self.align) }
     {
-        let size = round_up(self.size as u64, self.align() as u64);
+        let size = round_up(self.size as u64, self.align as u64);
         ValidLayout {
             size: size as u32,
             align: self.align,

@@ -3,6 +3,10 @@ ghost use Rattle.shm_allocator.specs.Layouts.{Validates, bad_layout_number};
 use super::{Layout, ValidLayout};
 use pointer_offset::Denial;
 
+const MAX_SIZE: u64 = 16_777_216;
+
+const MAX_ALIGNMENT: u64 = 65_536;
+
 // A request that breaks the rules.
 #[derive(Clone, Copy, PartialEq, Eq, Debug)]
 pub struct BadLayout;
@@ -21,7 +25,7 @@ impl TryFrom<Layout> for ValidLayout {
     ghost try_from_gives = { Validates };
 
     fn try_from(layout: Layout) -> Result<ValidLayout, BadLayout> {
-        if layout.size < 1 || layout.size > 16_777_216 || layout.align > 65_536 {
+        if layout.size < 1 || layout.size > MAX_SIZE || layout.align > MAX_ALIGNMENT {
             return Err(BadLayout);
         }
         if !layout.align.is_power_of_two() {

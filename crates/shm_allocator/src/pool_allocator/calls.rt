@@ -6,7 +6,7 @@ ghost use Rattle.std.specs.Prelude.{◌≡◌, true, false, MatchOption};
 ghost use Rattle.shm_allocator.specs.Pools.{pool_lawful};
 
 use super::{Config, PoolAllocator};
-use crate::buckets::Buckets;
+use crate::buckets::{Buckets, MAX_BUCKETS};
 use crate::layout::{Layout, ValidLayout};
 use crate::{
     AllocationStrategy, BucketAllocator, NotHeld, SharedMemorySetupHint, ShmAllocationError,
@@ -16,8 +16,6 @@ use crate::{
 const ID: u8 = 0;
 
 const MAX_ALIGNMENT: u32 = 4096;
-
-const MAX_BUCKETS: u32 = 1024;
 
 impl PoolAllocator {
     pub fn number_of_buckets(&self) -> u32
@@ -30,13 +28,12 @@ impl PoolAllocator {
     fn hint_bucket(&self, layout: ValidLayout, strategy: AllocationStrategy) -> ValidLayout
         ensures { (result.size ≡ hint_size self.now layout strategy) × (result.align ≡ hint_align self.now layout strategy) }
     {
-        if !strategy.grows() {
-            return self.layout;
+        let suffices = layout.size() <= self.layout.size() && layout.align() <= self.layout.align();
+        if strategy.grows() && !suffices {
+            self.layout.grown(layout, strategy)
+        } else {
+            self.layout
         }
-        if layout.size() > self.layout.size() || layout.align() > self.layout.align() {
-            return self.layout.grown(layout, strategy);
-        }
-        self.layout
     }
 
     // How many buckets the hint has.
@@ -56,7 +53,7 @@ fn bucket_of(config: Config, payload: u32) -> Option<ValidLayout>
     ensures { MatchOption result (pool_possible config payload ≡ false) (λ b. (pool_possible config payload ≡ true) × (b.size ≡ bucket_size_of config) × (b.align ≡ config.bucket_layout.align)) }
 {
     let bucket = ValidLayout::try_from(config.bucket_layout).ok()?.rounded();
-    if bucket.align() > MAX_ALIGNMENT || payload / bucket.size() > MAX_BUCKETS {
+    if bucket.align() > MAX_ALIGNMENT || payload / bucket.size() > MAX_BUCKETS as u32 {
         return None;
     }
     Some(bucket)

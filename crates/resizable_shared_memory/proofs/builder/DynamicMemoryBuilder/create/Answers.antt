@@ -5,7 +5,8 @@ use Rattle.shared_memory.specs.Names.{management_name, segment_name}
 use Rattle.shm_allocator.specs.declared.SharedMemorySetupHint.{SharedMemorySetupHint}
 use Rattle.resizable_shared_memory.specs.Creation.CreationDenied.{bad_name, bad_layout, no_management, no_segment}
 use Rattle.resizable_shared_memory.proofs.Creating.{same_room, undone}
-use Rattle.resizable_shared_memory.proofs.Storing.{same, made_as}
+use Rattle.shared_memory.proofs.Sounds.{same}
+use Rattle.resizable_shared_memory.proofs.Storing.{made_as}
 use Rattle.resizable_shared_memory.proofs.builder.DynamicMemoryBuilder.create.Goals as goal
 
 pub returns-in_err-base : goal.returns-in_err-base

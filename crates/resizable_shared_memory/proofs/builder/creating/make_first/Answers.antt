@@ -1,7 +1,7 @@
 -- A denial of the first segment is followed by the withdrawal of the management segment.
 use Rattle.std.proofs.Common.{◌≡◌, ℕ, true, false, List, is_err, Ok, Err, Result, sym, refl, ap, ◌∙◌, rules}
 use Rattle.std.proofs.lemmas.Bool.{both_ways}
-use Rattle.shared_memory.specs.declared.fault.Opened.{Opened}
+use Rattle.shared_memory.specs.declared.opened.Opened.{Opened}
 use Rattle.shared_memory.specs.declared.fault.SharedMemoryCreateError.{SharedMemoryCreateError}
 use Rattle.shared_memory.specs.Meaning.{Store}
 use Rattle.shared_memory.specs.Names.{segment_name, text}
@@ -24,12 +24,12 @@ module _ {A C : Type 0} (α : Meaning A C) (s t : Store) (n : List ℕ) (h : Sha
 
 pub returns-then-is_err : goal.returns-then-is_err
 returns-then-is_err g c =
-    let name = c.segment.ensures.text ∙ ap (segment_name (text c.args.base.now)) c.new.ensures in
+    let name = c.segment.ensures ∙ ap (segment_name (text c.args.base.now)) c.new.ensures in
     denied g.A.ShmAllocator.means _ (g.S.SegmentStore.means c.make_segment-made.new.store) (text c.args.base.now) c.args.hint c.args.management c.make_segment-made.result _ (sym c.if-is_err.ensures.value)
     (made_as g.A.ShmAllocator.means _ _ c.make_segment-made.result name refl c.make_segment-made.ensures) (search rules)
 
 pub returns-else-is_err : goal.returns-else-is_err
 returns-else-is_err g c =
-    let name = c.segment.ensures.text ∙ ap (segment_name (text c.args.base.now)) c.new.ensures in
+    let name = c.segment.ensures ∙ ap (segment_name (text c.args.base.now)) c.new.ensures in
     made g.A.ShmAllocator.means _ _ (text c.args.base.now) c.args.hint c.args.management c.make_segment-made.result (sym c.if-is_err.ensures.value)
     (made_as g.A.ShmAllocator.means _ _ c.make_segment-made.result name refl c.make_segment-made.ensures)

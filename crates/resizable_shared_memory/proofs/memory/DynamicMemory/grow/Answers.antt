@@ -1,32 +1,40 @@
 -- A growth makes the next segment from the hint; one that is refused leaves the memory as it was.
-use Rattle.std.proofs.Common.{ℕ, ◌+◌, Ok, Err, sym, refl, ap, ◌∙◌, subst, arith}
+use Rattle.std.proofs.Common.{Ok, Err, refl, ap, ◌∙◌, subst}
+use Rattle.std.proofs.lemmas.Option.{MatchOption-at_none, MatchOption-at_some}
 use Rattle.std.proofs.lemmas.Result.{err_from_is_err_and}
+use Rattle.std.specs.Result.{result_ok}
+use Rattle.shared_memory.specs.Optional.{ok_or_err}
 use Rattle.shared_memory.specs.Names.{segment_name, text}
 use Rattle.shm_allocator.specs.declared.SharedMemorySetupHint.{SharedMemorySetupHint}
 use Rattle.resizable_shared_memory.specs.Memory.GrowthRefused.{no_id, no_segment}
 use Rattle.resizable_shared_memory.proofs.Storing.{made_as}
 use Rattle.resizable_shared_memory.proofs.memory.DynamicMemory.grow.Goals as goal
 
-pub returns-then-id-max_segment_id : goal.returns-then-id-max_segment_id
-returns-then-id-max_segment_id g c = (refl, no_id refl (sym c.value-id.ensures ∙ (c.if-id-max_segment_id.true ∙ c.max_segment_id.ensures)))
+pub returns-in_err-next : goal.returns-in_err-next
+returns-in_err-next g c =
+    let p = err_from_is_err_and c.from_residual.result c.from_residual.ensures.1 in
+    let (none, why) = ok_or_err c.successor.result c.ok_or.ensures.value c.in_err-next.was in
+    rw (p.1, p.2, why) (refl, no_id refl (MatchOption-at_none _ _ none c.successor.ensures))
 
 pub returns-in_err-opened : goal.returns-in_err-opened
 returns-in_err-opened g c =
-    let p = err_from_is_err_and c.from_residual.result c.from_residual.ensures.1 in
+    let p = err_from_is_err_and c.from_residual-in_err-opened.result c.from_residual-in_err-opened.ensures.1 in
     let named = segment_name (text c.args.self.now.tables.base) in
-    let name = c.segment-name.ensures.text ∙ ap named (c.new.ensures ∙ ap (λ (i : ℕ). i + 1) c.value-id.ensures) in
-    rw (p.1, p.2) (refl, no_segment (omega arith) (made_as g.A.ShmAllocator.means _ _ (Err c.in_err-opened.field-0.0) name c.resize_hint-hint.ensures c.in_err-opened.ensures))
+    let next = MatchOption-at_some _ _ c.in_ok-next.next (c.ok_or.ensures.ok_part ∙ ap result_ok c.in_ok-next.was) c.successor.ensures in
+    let name = c.segment-name.ensures ∙ ap named next.1 in
+    rw (p.1, p.2) (refl, no_segment next.0 (made_as g.A.ShmAllocator.means _ _ (Err c.in_err-opened.field-0.0) name c.resize_hint-hint.ensures c.in_err-opened.ensures))
 
 pub returns : goal.returns
 returns g c =
     let α = g.A.ShmAllocator.means in
     let made = c.in_ok-opened.ensures in
     let named = segment_name (text c.args.self.now.tables.base) in
-    let name = c.segment-name.ensures.text ∙ ap named (c.new.ensures ∙ ap (λ (i : ℕ). i + 1) c.value-id.ensures) in
+    let next = MatchOption-at_some _ _ c.in_ok-next.next (c.ok_or.ensures.ok_part ∙ ap result_ok c.in_ok-next.was) c.successor.ensures in
+    let name = c.segment-name.ensures ∙ ap named next.1 in
     let hinted = c.resize_hint-hint.ensures in
     let between = g.S.SegmentStore.means c.make_segment.new.store in
     record {
-      below = omega arith;
+      below = next.0;
       opened = c.in_ok-opened.opened;
       between = between;
       made = made_as α _ _ (Ok c.in_ok-opened.opened) name hinted made;

@@ -13,7 +13,7 @@ use Rattle.resizable_shared_memory.specs.Parts.{chunks, place as IsPlace-in}
 use Rattle.resizable_shared_memory.specs.declared.ledger.Held.{Held}
 use Rattle.resizable_shared_memory.specs.declared.memory.DynamicMemory.{DynamicMemory}
 use Rattle.resizable_shared_memory.specs.declared.table.Place.{Place}
-use Rattle.resizable_shared_memory.proofs.Storing.{same}
+use Rattle.shared_memory.proofs.Sounds.{same}
 use Rattle.resizable_shared_memory.proofs.memory.DynamicMemory.write.Goals as goal
 use Rattle.resizable_shared_memory.proofs.memory.DynamicMemory.write.Goals.{then-from-size-via-then-from-size, then-from-size-via-else-from-size+then-bytes-size}
 

@@ -9,7 +9,7 @@ returns g c =
     let m = c.args.self.now in
     let i = m.current.0 in
     let left = c.leave.ensures in
-    let apart : i ≡ c.new-next.result.0 → ⊥ = omega arith in
+    let apart : i ≡ c.args.next.0 → ⊥ = omega arith in
     record {
       next = omega arith;
       old = left.old;

@@ -18,7 +18,7 @@ pub overflow_add-place : goal.overflow_add-place
 overflow_add-place c =
     let m = c.args.self.now in
     let i = m.current.0 in
-    omega (arith, m.counted i, ap count_of c.in-Some.ensures, tally_le i (entries_of m.ledger), c.requires.room)
+    omega (arith, m.counted i, ap count_of c.mapped-place.ensures, tally_le i (entries_of m.ledger), c.requires.room)
 
 pub invariant_of-self : goal.invariant_of-self
 invariant_of-self c =
@@ -31,7 +31,7 @@ invariant_of-self c =
       mapped = ap is_some c.put.ensures.here;
       ahead = ahead_others m.table c.put.new.self i i (le_refl i) others m.ahead;
       busy = busy_put m.table c.put.new.self i others m.busy;
-      counted = counted_more m.table c.put.new.self es _ i _ _ new c.push.ensures (omega (arith, mapped_below m.table i m.mapped)) (sym c.in-Some.ensures) c.put.ensures c.with_count.ensures.3 m.counted;
+      counted = counted_more m.table c.put.new.self es _ i _ _ new c.push.ensures (omega (arith, mapped_below m.table i m.mapped)) (c.mapped-place.ensures) c.put.ensures c.with_count.ensures.3 m.counted;
       granted = subst (λ fs. GrantedUpTo fs (m.given + 1)) (sym c.push.ensures) (each_push es new (λ e. e.grant ≤ m.given + 1) (λ k h. omega (arith, m.granted k h)) (omega arith));
     }
 
@@ -40,8 +40,8 @@ returns c =
     let m = c.args.self.now in
     let with_claim : ℕ → ℕ → List Entry = λ v g. entries_of m.ledger ++ ((record { value = v; grant = g; size = c.args.size }) ∷ []) in
     record {
-      there = c.in-Some.place;
-      was = sym c.in-Some.ensures;
+      there = c.mapped-place.result;
+      was = c.mapped-place.ensures;
       value = c.claim.ensures.0;
       address = refl;
       grant = c.claim.ensures.1;

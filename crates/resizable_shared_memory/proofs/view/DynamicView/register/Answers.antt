@@ -1,7 +1,7 @@
 -- An open viewer registers a value, and a closed one none.
 use Rattle.std.proofs.Common.{refl}
 use Rattle.resizable_shared_memory.specs.Viewer.RegisterDenied.{viewer_closed}
-use Rattle.resizable_shared_memory.proofs.Storing.{same}
+use Rattle.shared_memory.proofs.Sounds.{same}
 use Rattle.resizable_shared_memory.proofs.Viewing.{opened_as}
 use Rattle.resizable_shared_memory.proofs.view.DynamicView.register.Goals as goal
 

@@ -1,7 +1,7 @@
 -- A place that is mapped counts one registration more, as long as it can be counted.
 use Rattle.std.proofs.Common.{◌+◌, refl, ap, inl, arith}
 use Rattle.resizable_shared_memory.specs.Viewer.RegisterDenied.{registrations_full}
-use Rattle.resizable_shared_memory.proofs.Storing.{same}
+use Rattle.shared_memory.proofs.Sounds.{same}
 use Rattle.resizable_shared_memory.proofs.Viewing.{put_at}
 use Rattle.resizable_shared_memory.proofs.view.OpenView.add.Goals as goal
 

@@ -6,7 +6,7 @@ pub returns : goal.returns
 returns g c =
     let id = c.in-Some.id in
     record {
-      leaves = inl (id.0, c.in-Some-get.place, (id, c.in-Some.is, refl), sym c.in-Some-get.ensures, omega arith, c.put.ensures.here, (c.close.result, c.close.ensures));
+      leaves = inl (id.0, c.mapped-place.result, (id, c.in-Some.is, refl), c.mapped-place.ensures, omega arith, c.put.ensures.here, (c.close.result, c.close.ensures));
       others = λ k no. c.put.ensures.others k (λ e. no (id, c.in-Some.is, sym e));
       kept = refl;
     }

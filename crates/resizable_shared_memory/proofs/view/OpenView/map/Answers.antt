@@ -13,7 +13,7 @@ pub returns-in_err-opened : goal.returns-in_err-opened
 returns-in_err-opened g c =
     let p = err_from_is_err_and c.from_residual.result c.from_residual.ensures.1 in
     let v = c.args.self.now in
-    let denied = known_as (segment_name (text v.record.base)) _ _ (Err c.in_err-opened.field-0.0) c.as_bytes.ensures c.segment-name.ensures.text c.segment_id-id.ensures refl c.in_err-opened.ensures in
+    let denied = known_as (segment_name (text v.record.base)) _ _ (Err c.in_err-opened.field-0.0) c.as_bytes.ensures c.segment-name.ensures c.segment_id-id.ensures refl c.in_err-opened.ensures in
     rw (p.1, p.2) (not_opened v refl c.requires denied.0, refl, denied.1)
 
 pub returns : goal.returns
@@ -33,7 +33,7 @@ returns g c =
         absent = c.requires;
         opened = o;
         between = g.S.SegmentStore.means c.open_for.new.store;
-        opens = known_as (segment_name (text v.record.base)) _ _ (Ok o) c.as_bytes.ensures c.segment-name.ensures.text id refl c.in_ok-opened.ensures;
+        opens = known_as (segment_name (text v.record.base)) _ _ (Ok o) c.as_bytes.ensures c.segment-name.ensures id refl c.in_ok-opened.ensures;
         counted = c.with_count.result;
         is = put.here;
         numbers = let n = c.with_count.ensures in let o = c.of.ensures in (n.0 ∙ o.0, n.1 ∙ o.1, n.2 ∙ o.2, n.3);

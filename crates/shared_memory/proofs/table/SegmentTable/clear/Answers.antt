@@ -1,14 +1,17 @@
-use Rattle.std.proofs.Common.{replicate, refl, ap, ◌∙◌, arith}
-use Rattle.shared_memory.specs.Meaning.{patched}
-use Rattle.shared_memory.proofs.Tabled.{refilled_bytes, refilled_facts}
+use Rattle.std.proofs.Common.{ℕ, replicate, refl, arith}
+use Rattle.std.proofs.lemmas.List.{length-replicate}
+use Rattle.shared_memory.proofs.Overwriting.{zeros_in}
+use Rattle.shared_memory.proofs.Tabled.{stored_bytes, stored_facts}
 use Rattle.shared_memory.proofs.table.SegmentTable.clear.Goals as goal
 
 pub invariant_of-self : goal.invariant_of-self
-invariant_of-self c = refilled_facts c.args.self.now c.clear.new.all (omega arith)
+invariant_of-self c =
+    let n = c.args.size in
+    let zeros = zeros_in c.deref_mut.result.now c.fill.new.self c.args.at n (omega (arith, c.requires, c.deref_mut.ensures.len)) (c.fill.ensures.after (λ y q. q)) in
+    stored_facts c.args.self.now c.deref_mut.result.now c.fill.new.self (replicate n 0) c.args.at _ c.deref_mut.ensures.value zeros (omega (arith, length-replicate {A = ℕ} n 0)) (omega (arith, c.requires))
 
 pub returns : goal.returns
 returns c =
-    record {
-      slots = refl;
-      bytes = refilled_bytes c.args.self.now c.clear.new.all (omega arith) ∙ (c.clear.ensures ∙ ap (λ xs. patched xs c.args.at (replicate c.args.size 0)) c.as_mut_slice.ensures.value);
-    }
+    let n = c.args.size in
+    let zeros = zeros_in c.deref_mut.result.now c.fill.new.self c.args.at n (omega (arith, c.requires, c.deref_mut.ensures.len)) (c.fill.ensures.after (λ y q. q)) in
+    record { slots = refl; bytes = stored_bytes c.args.self.now c.deref_mut.result.now c.fill.new.self (replicate n 0) c.args.at _ c.deref_mut.ensures.value zeros (omega (arith, length-replicate {A = ℕ} n 0)) (omega (arith, c.requires)) }

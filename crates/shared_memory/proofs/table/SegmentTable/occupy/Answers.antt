@@ -12,6 +12,9 @@ put-requires c =
       lie = lie_made s p n c.args.size c.args.allocator_id c.requires.vacant c.clear.new.self c.clear.ensures;
     }
 
+pub invariant_of-result : goal.invariant_of-result
+invariant_of-result c = record { low = omega (arith, place_inside c.args.self.now c.args.place c.of.result c.args.size c.args.allocator_id c.requires.vacant) }
+
 pub returns : goal.returns
 returns c =
     let s = c.args.self.now in
@@ -19,6 +22,6 @@ returns c =
     let t = c.put.new.self in
     let p = c.args.place in
     record {
-      made = made_at s p c.of.result c.args.size c.args.allocator_id c.requires.vacant m c.clear.ensures t c.put.ensures c.args.name.now c.of.ensures c.requires.fresh.0 c.requires.fresh.1 c.requires.sized;
+      made = made_at s p c.of.result c.args.size c.args.allocator_id c.requires.vacant m c.clear.ensures t c.put.ensures _ c.args.name.now c.of.ensures c.requires.fresh.0 c.requires.fresh.1 c.requires.sized;
       relaid = relaid_made s p c.of.result c.args.size c.args.allocator_id c.requires.vacant m c.clear.ensures t c.put.ensures;
     }

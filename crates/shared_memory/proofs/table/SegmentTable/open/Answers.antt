@@ -1,10 +1,13 @@
-use Rattle.std.proofs.Common.{ℕ, ap, subst, ◌∙◌, refl, arith, rules}
+use Rattle.std.proofs.Common.{◌≡◌, ℕ, List, Some, Ok, Option, Result, ap, subst, ◌∙◌, refl, arith, rules}
 use Rattle.std.specs.Result.{result_ok}
 use Rattle.std.proofs.lemmas.Option.{MatchOption-at_none, MatchOption-at_some}
 use Rattle.std.proofs.lemmas.Result.{err_from_is_err_and}
 use Rattle.shared_memory.specs.Meaning.{Changes, OpenDenied}
 use Rattle.shared_memory.specs.Optional.{some_iff_some, some_iff_none, ok_or_err}
-use Rattle.shared_memory.specs.Tables.{segment_of, under, Follows}
+use Rattle.shared_memory.specs.Slots.{name_of, slot_at}
+use Rattle.shared_memory.specs.Tables.{slots_of, segment_of, under, Follows, Finds}
+use Rattle.shared_memory.specs.declared.fault.SharedMemoryOpenError.{SharedMemoryOpenError}
+use Rattle.shared_memory.specs.declared.table.SegmentTable.{SegmentTable}
 use Rattle.shared_memory.specs.declared.table.Slot.{Slot}
 use Rattle.shared_memory.proofs.Sounds.{same}
 use Rattle.shared_memory.proofs.Tabled.{at_slot, good_start, no_name, unmoved, follows_inside, lie_follows, relaid_follows, changes_follows}
@@ -13,6 +16,10 @@ use Rattle.shared_memory.proofs.table.SegmentTable.open.Goals as goal
 -- a slot with so many maps
 abbrev counted : Slot → ℕ → Slot
 counted x n = record { name = x.name; allocator_id = x.allocator_id; start = x.start; size = x.size; maps = n }
+
+-- the slot that has the name
+found : (s : SegmentTable) (n : List ℕ) (h : ℕ) (x : Slot) (o : Option (ℕ × Slot)) {r : Result (ℕ × Slot) SharedMemoryOpenError} → o ≡ result_ok r → r ≡ Ok (h, x) → Finds s n o → (slot_at (slots_of s) h ≡ Some x) × (name_of x ≡ Some n)
+found s n h x o ok is f = MatchOption-at_some {o = o} _ _ (h, x) (ok ∙ ap result_ok is) f
 
 pub returns-then-not-is_good_name : goal.returns-then-not-is_good_name
 returns-then-not-is_good_name c =
@@ -36,7 +43,7 @@ returns-in_err-maps c =
     let h = c.in_ok-handle.handle in
     let x = c.in_ok-handle.slot in
     let good = c.is_good_name.ensures.0 c.if-not-is_good_name.false in
-    let f = MatchOption-at_some {o = c.find.result} _ _ (h, x) (c.ok_or.ensures.ok_part ∙ ap result_ok c.in_ok-handle.was) c.find.ensures in
+    let f = found s c.args.name.now h x c.find.result c.ok_or.ensures.ok_part c.in_ok-handle.was c.find.ensures in
     let (none, why) = ok_or_err c.checked_add.result c.ok_or-2.ensures.value c.in_err-maps.was in
     let full = some_iff_none _ c.checked_add.result c.checked_add.ensures none in
     let p = err_from_is_err_and c.from_residual-in_err-maps.result c.from_residual-in_err-maps.ensures.1 in
@@ -51,9 +58,16 @@ put-requires c =
     let h = c.in_ok-handle.handle in
     let x = c.in_ok-handle.slot in
     let y = counted x c.in_ok-maps.maps in
-    let e = MatchOption-at_some {o = c.find.result} _ _ (h, x) (c.ok_or.ensures.ok_part ∙ ap result_ok c.in_ok-handle.was) c.find.ensures in
+    let e = found s c.args.name.now h x c.find.result c.ok_or.ensures.ok_part c.in_ok-handle.was c.find.ensures in
     let f : Follows s h y = (x, e.0, refl) in
     record { inside = follows_inside s h y f; lie = lie_follows s h y f }
+
+pub invariant_of-result : goal.invariant_of-result
+invariant_of-result c =
+    let h = c.in_ok-handle.handle in
+    let x = c.in_ok-handle.slot in
+    let e = found c.args.self.now c.args.name.now h x c.find.result c.ok_or.ensures.ok_part c.in_ok-handle.was c.find.ensures in
+    record { low = (good_start c.args.self.now h x e.0).1 }
 
 pub returns : goal.returns
 returns c =
@@ -62,7 +76,7 @@ returns c =
     let h = c.in_ok-handle.handle in
     let x = c.in_ok-handle.slot in
     let y = counted x c.in_ok-maps.maps in
-    let e = MatchOption-at_some {o = c.find.result} _ _ (h, x) (c.ok_or.ensures.ok_part ∙ ap result_ok c.in_ok-handle.was) c.find.ensures in
+    let e = found s c.args.name.now h x c.find.result c.ok_or.ensures.ok_part c.in_ok-handle.was c.find.ensures in
     let f : Follows s h y = (x, e.0, refl) in
     let (few, more) = some_iff_some c.checked_add.result c.checked_add.ensures (c.ok_or-2.ensures.ok_part ∙ ap result_ok c.in_ok-maps.was) in
     record {

@@ -1,14 +1,9 @@
-use Rattle.std.proofs.Common.{refl, ap, ◌∙◌, arith}
-use Rattle.shared_memory.specs.Meaning.{patched}
-use Rattle.shared_memory.proofs.Tabled.{refilled_bytes, refilled_facts}
+use Rattle.std.proofs.Common.{refl, arith}
+use Rattle.shared_memory.proofs.Tabled.{stored_bytes, stored_facts}
 use Rattle.shared_memory.proofs.table.SegmentTable.overwrite.Goals as goal
 
 pub invariant_of-self : goal.invariant_of-self
-invariant_of-self c = refilled_facts c.args.self.now c.overwrite.new.all (omega arith)
+invariant_of-self c = stored_facts c.args.self.now c.deref_mut.result.now c.copy_from_slice.new.self c.args.bytes.now c.args.at _ c.deref_mut.ensures.value c.copy_from_slice.ensures.after (omega arith) (omega (arith, c.requires))
 
 pub returns : goal.returns
-returns c =
-    record {
-      slots = refl;
-      bytes = refilled_bytes c.args.self.now c.overwrite.new.all (omega arith) ∙ (c.overwrite.ensures ∙ ap (λ xs. patched xs c.args.at c.args.bytes.now) c.as_mut_slice.ensures.value);
-    }
+returns c = record { slots = refl; bytes = stored_bytes c.args.self.now c.deref_mut.result.now c.copy_from_slice.new.self c.args.bytes.now c.args.at _ c.deref_mut.ensures.value c.copy_from_slice.ensures.after (omega arith) (omega (arith, c.requires)) }
