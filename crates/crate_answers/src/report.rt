@@ -32,7 +32,8 @@ pub struct Report<'a> {
     totals: Totals,
     // The number of the list.
     list: u64,
-    // A difference or a fault was found in the list, so nothing is known of what follows there.
+    // A difference or a fault was found in the list, so nothing is known of what follows there. Beside the number, since a
+    // line before the first list can be at fault too.
     lost: bool,
 }
 

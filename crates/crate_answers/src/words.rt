@@ -97,6 +97,7 @@ fn read_creation(words: &[&str], recorded: Result<u64, Reason>) -> Result<Creati
     }
 }
 
+// A function: neither the type nor `FromStr` is of this crate.
 fn read_strategy(word: &str) -> Result<AllocationStrategy, ReadError> {
     match word {
         "static" => Ok(AllocationStrategy::Static),

@@ -48,6 +48,7 @@ impl PointerOffset {
         Ok(PointerOffset(offset as u64 * 256 + segment_id.value() as u64))
     }
 
+    // Named as in the crate, like `as_value`, and so no `From`.
     pub fn from_value(value: u64) -> PointerOffset
         ensures { result.0 ≡ value }
     {
@@ -80,6 +81,7 @@ impl PointerOffset {
     }
 }
 
+// By hand: a derived impl would show the packed number alone.
 impl fmt::Debug for PointerOffset {
     fn fmt<W: fmt::Write>(&self, f: &mut fmt::Formatter<W>) -> fmt::Result {
         let offset = self.offset();

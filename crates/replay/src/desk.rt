@@ -13,7 +13,7 @@ struct Chunk {
     name: String,
     bytes: ByteRange,
     held: bool,
-    // Its bytes came free by a return under another name.
+    // Its bytes came free by a return under another name. Apart from `held`, since all four cases occur.
     lost: bool,
 }
 

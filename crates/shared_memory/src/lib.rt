@@ -24,7 +24,7 @@ mod tests;
 pub trait SegmentStore {
     ghost means: { Self → Store };
 
-    // Makes a segment of zeros, mapped once.
+    // Makes a segment of zeros, mapped once. Kinds of allocators have numbers, since anyone may add one.
     fn make(
         &mut self,
         name: &[u8],

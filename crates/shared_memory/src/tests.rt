@@ -130,6 +130,7 @@ fn a_page_behaves(rt: HostRuntime) -> Result<(), Fail> {
 
 #[test]
 fn a_quota_behaves(rt: HostRuntime) -> Result<(), Fail> {
+    // No `?`: the denial hands the store back, which a failure cannot hold.
     let Ok(mut store) = QuotaStore::new(FrameStore::new(rt.alloc(), 3, 8192)?, 4096) else {
         return Err(Fail::new("not empty"));
     };

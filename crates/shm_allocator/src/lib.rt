@@ -95,7 +95,7 @@ pub trait ShmAllocator: Sized + Drop {
     ) -> SharedMemorySetupHint<Self::Configuration>
         ensures { result ≡ means.hint self.now layout strategy };
 
-    // The bucket size, or 0 where there are no buckets.
+    // The bucket size, or 0 where there are no buckets: 0 is the number that the rules give.
     fn bucket(&self) -> u32
         ensures { result ≡ means.bucket self.now };
 

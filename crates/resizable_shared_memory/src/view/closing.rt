@@ -14,6 +14,7 @@ impl DynamicView {
     ) -> Result<(), ViewCloseError>
         ensures { ClosesView self.old (S.SegmentStore.means store.old) result self.new (S.SegmentStore.means store.new) }
     {
+        // No `?`: the denial takes the mark with it.
         let Some(view) = &self.open else {
             return Err(ViewCloseError { mark });
         };

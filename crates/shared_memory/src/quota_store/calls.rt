@@ -26,6 +26,7 @@ impl<S: SegmentStore> QuotaStore<S> {
         ensures value { result ≡ used (S.means self.now.below) }
         ensures bound { result ≤ 320 * 2 ^ 64 }
     {
+        // A loop: the proof for a chain that sums did not close.
         let mut sum: u128 = 0;
         for handle in 0..MAX_HANDLES as u16 {
             let size = self.below.payload_size(handle).unwrap_or(0);

@@ -62,6 +62,7 @@ impl SegmentTable {
     pub(crate) fn blocker(&self, from: usize, to: usize) -> Option<usize>
         ensures { Blocks (extents self.now) from to result }
     {
+        // No `flatten`: behind it the bound of each slot is lost.
         for slot in &self.slots {
             if let Some(slot) = slot {
                 let end = slot.start + slot.size;

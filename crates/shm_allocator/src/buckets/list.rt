@@ -10,6 +10,7 @@ impl Buckets {
         ensures { New count result }
     {
         let mut free = ArrayVec::new();
+        // By pushes, which cannot fail: `extend` could, for want of room.
         for i in (0..count).rev() {
             free.push(i);
         }
