@@ -1,4 +1,4 @@
-use crate::call::{Call, Creation};
+use crate::call::Call;
 use crate::words::{ReadError, read_call};
 use std::alloc::{AllocError, Global};
 use std::fmt;
@@ -26,15 +26,8 @@ pub enum Content {
     Other,
 }
 
-// A line with what it says.
-#[derive(Debug, Drop)]
-pub struct Entry<'a> {
-    pub line: Line<'a>,
-    pub content: Content,
-}
-
 impl Content {
-    fn read(heap: Global, text: &str) -> Result<Content, AllocError> {
+    pub fn read(heap: Global, text: &str) -> Result<Content, AllocError> {
         if let Some(number) = read_list(text) {
             return Ok(Content::List(number));
         }
@@ -44,35 +37,6 @@ impl Content {
             Err(ReadError::OutOfMemory(error)) => Err(error),
         }
     }
-}
-
-impl<'a> Entry<'a> {
-    fn read(heap: Global, line: Line<'a>) -> Result<Entry<'a>, AllocError> {
-        let content = Content::read(heap, line.text)?;
-        Ok(Entry { line, content })
-    }
-
-    // The number of the list that begins here.
-    pub fn list_number(&self) -> Option<u64> {
-        match self.content {
-            Content::List(number) => Some(number),
-            _ => None,
-        }
-    }
-
-    pub fn creation(&self) -> Option<Creation> {
-        match self.content {
-            Content::Call(Call::Create(creation)) => Some(creation),
-            _ => None,
-        }
-    }
-}
-
-pub fn read_entries(heap: Global, text: &str) -> Result<Vec<Entry<'_>>, AllocError> {
-    text.lines()
-        .zip(1..)
-        .map(|(text, number)| Entry::read(heap, Line { number, text }))
-        .try_collect(heap)
 }
 
 fn read_list(text: &str) -> Option<u64> {

@@ -46,9 +46,14 @@ impl Stage {
             Stage::Uncreated | Stage::Ended => return Err(Trouble::Misplaced),
         };
         if matches!(call, Call::End) {
-            *self = Stage::Ended;
+            self.end();
         }
         Ok(found)
+    }
+
+    // A function, since an assignment of a stage clears as many bytes as the largest has, and only an end is to pay for it.
+    fn end(&mut self) {
+        *self = Stage::Ended;
     }
 
     // The list may end here.

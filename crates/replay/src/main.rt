@@ -1,20 +1,15 @@
 #![tactic(auto)]
 
-use list::{List, Part, Step};
-use outcome::CallError;
+use line::Line;
+use outcome::{CallError, Done};
 use report::Report;
-use setup::Begun;
-use shared_memory::SegmentStore;
-use shared_memory::fault::StoreError;
-use shared_memory::frame_store::FrameStore;
-use shared_memory::span_store::SpanStore;
 use std::io::{BufRead, BufReader};
-use words::{Kind, Shape};
-use workplace::{Nowhere, Workplace};
+use words::{Kind, Said};
+use workplace::{Current, Workplace};
 
 mod byte_range;
 mod desk;
-mod list;
+mod line;
 mod outcome;
 mod report;
 mod setup;
@@ -27,93 +22,62 @@ fn main(rt: HostRuntime) -> anyhow::Result<()> {
 }
 
 fn replay(rt: &HostRuntime) -> anyhow::Result<()> {
-    let heap = rt.alloc();
-    let lines: Vec<String> = BufReader::new(heap, rt.stdin())?
-        .lines(heap)
-        .try_collect(heap)?;
-    let list = List::read(heap, &lines)?;
-    let mut report = Report::new(rt);
-    work(&mut report, &list.before, Nowhere)?;
-    for part in &list.parts {
-        replay_part(&mut report, part)?;
+    let mut lines: Vec<String> = Vec::new(rt.alloc());
+    for line in BufReader::new(rt.alloc(), rt.stdin())?.lines(rt.alloc()) {
+        lines.push(line?)?;
     }
+    let mut report = Report::new(rt);
+    let mut current = Current::Nowhere;
+    for (text, number) in lines.iter().zip(1..) {
+        let text = text.as_str();
+        let words = words::split(rt.alloc(), text)?;
+        if !words.is_empty() {
+            take(&mut report, &mut current, Line { number, text }, &words)?;
+        }
+    }
+    current.sum_up(rt)?;
     report.end()
 }
 
-fn replay_part(report: &mut Report<'_>, part: &Part<'_>) -> anyhow::Result<()> {
-    let heap = report.rt.alloc();
-    match part.kind {
-        Kind::Pool {
-            bucket_layout,
-            payload,
-        } => begin(report, part, setup::pool(heap, bucket_layout, payload)),
-        Kind::Bump { payload } => begin(report, part, setup::bump(heap, payload)),
-        Kind::Store {
-            shape: Shape::Frames { count, size },
-            quota,
-        } => {
-            let store = FrameStore::new(heap, count as usize, size as usize);
-            begin_store(report, part, store, quota)
-        }
-        Kind::Store {
-            shape: Shape::Span { pages },
-            quota,
-        } => {
-            let store = SpanStore::new(heap, pages as usize);
-            begin_store(report, part, store, quota)
-        }
+fn take(
+    report: &mut Report<'_>,
+    current: &mut Current,
+    line: Line<'_>,
+    words: &[&str],
+) -> anyhow::Result<()> {
+    match Said::from_words(words) {
+        Said::SetUp(kind) => begin(report, current, line, kind),
+        Said::Call(call) => tell(report, line, current.carry_out(call)),
+        Said::Other => report.no_call(line),
     }
 }
 
-fn begin_store<S: SegmentStore + Drop>(
+fn begin(
     report: &mut Report<'_>,
-    part: &Part<'_>,
-    store: Result<S, StoreError>,
-    quota: Option<u64>,
+    current: &mut Current,
+    line: Line<'_>,
+    kind: Kind,
 ) -> anyhow::Result<()> {
-    let heap = report.rt.alloc();
-    match quota {
-        None => begin(report, part, setup::store(heap, store)),
-        Some(quota) => {
-            let store = setup::under_quota(store, quota);
-            begin(report, part, setup::store(heap, store))
+    current.sum_up(report.rt)?;
+    // First what was set up before goes, so that the two never take memory together.
+    *current = Current::Nowhere;
+    match setup::set_up(report.rt.alloc(), kind) {
+        Ok((begun, told)) => {
+            *current = begun;
+            report.call(line, &Ok(told))
         }
+        Err(error) => tell(report, line, Err(error)),
     }
 }
 
-fn begin<W: Workplace>(
+fn tell(
     report: &mut Report<'_>,
-    part: &Part<'_>,
-    begun: Begun<W>,
+    line: Line<'_>,
+    came: Result<Done, CallError>,
 ) -> anyhow::Result<()> {
-    match begun {
-        Ok((workplace, told)) => {
-            report.call(part.line, &Ok(told))?;
-            work(report, &part.steps, workplace)
-        }
-        Err(reason) => {
-            report.call(part.line, &Err(reason))?;
-            work(report, &part.steps, Nowhere)
-        }
+    match came {
+        Ok(done) => report.call(line, &Ok(done)),
+        Err(CallError::NotDone(reason)) => report.call(line, &Err(reason)),
+        Err(CallError::OutOfMemory(error)) => Err(error.into()),
     }
-}
-
-fn work<W: Workplace>(
-    report: &mut Report<'_>,
-    steps: &[Step<'_>],
-    mut workplace: W,
-) -> anyhow::Result<()> {
-    for &Step { line, call } in steps {
-        let Some(call) = call else {
-            report.no_call(line)?;
-            continue;
-        };
-        let outcome = match workplace.carry_out(call) {
-            Ok(done) => Ok(done),
-            Err(CallError::NotDone(reason)) => Err(reason),
-            Err(CallError::OutOfMemory(error)) => return Err(error.into()),
-        };
-        report.call(line, &outcome)?;
-    }
-    workplace.sum_up(report.rt)
 }

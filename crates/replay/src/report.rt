@@ -1,4 +1,4 @@
-use crate::list::Line;
+use crate::line::Line;
 use crate::outcome::Outcome;
 use std::fmt;
 

@@ -94,18 +94,17 @@ fn standing(answer: Result<bool, BadHandle>) -> Result<Done, CallError> {
     Ok(answer.map(Done::Stands).map_err(NotDone::BadHandle)?)
 }
 
-// Bytes as text, with a '.' for what is no visible character.
+// Bytes as text, with a '.' for what is no visible character. By pushes: a `collect` takes longer.
 fn shown(heap: Global, bytes: &[u8]) -> Result<String, AllocError> {
-    bytes
-        .iter()
-        .map(|&byte| {
-            if byte.is_ascii_graphic() {
-                char::from(byte)
-            } else {
-                '.'
-            }
-        })
-        .collect(heap)
+    let mut text = String::new(heap);
+    for &byte in bytes {
+        text.push(if byte.is_ascii_graphic() {
+            char::from(byte)
+        } else {
+            '.'
+        })?;
+    }
+    Ok(text)
 }
 
 impl<S: SegmentStore + Drop> Workplace for Shelf<S> {

@@ -1,10 +1,9 @@
 use shm_allocator::layout::Layout;
 use std::alloc::{AllocError, Global};
 
-// What a line of the list says.
+// What a line with words says.
 #[derive(Clone, Copy)]
 pub enum Said<'a> {
-    Nothing,
     SetUp(Kind),
     Call(Call<'a>),
     // Words that are no call.
@@ -66,21 +65,17 @@ pub enum SegmentCall<'a> {
     Read { from: u64, count: u64 },
 }
 
-impl<'a> Said<'a> {
-    // From a '#' on, a line is a comment.
-    pub fn read(heap: Global, line: &'a str) -> Result<Said<'a>, AllocError> {
-        let said = match line.split_once('#') {
-            Some((said, _comment)) => said,
-            None => line,
-        };
-        let words: Vec<&str> = said.split_whitespace().collect(heap)?;
-        Ok(Said::from_words(&words))
-    }
+// The words of a line. From a '#' on, it is a comment.
+pub fn split(heap: Global, line: &str) -> Result<Vec<&str>, AllocError> {
+    let said = match line.split_once('#') {
+        Some((said, _comment)) => said,
+        None => line,
+    };
+    said.split_whitespace().collect(heap)
+}
 
-    fn from_words(words: &[&'a str]) -> Said<'a> {
-        if words.is_empty() {
-            return Said::Nothing;
-        }
+impl<'a> Said<'a> {
+    pub fn from_words(words: &[&'a str]) -> Said<'a> {
         if let Some(kind) = Kind::from_words(words) {
             return Said::SetUp(kind);
         }

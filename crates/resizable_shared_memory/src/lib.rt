@@ -1,5 +1,7 @@
 #![tactic(auto)]
 
+pub use pointer_offset::Denial;
+
 pub mod builder;
 pub mod claim;
 pub mod fault;

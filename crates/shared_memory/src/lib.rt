@@ -6,6 +6,7 @@ ghost use Rattle.std.specs.Prelude.{◌≡◌, MatchBool};
 
 use fault::{AccessError, BadHandle, SharedMemoryCreateError, SharedMemoryOpenError};
 use opened::Opened;
+pub use pointer_offset::Denial;
 
 pub mod fault;
 pub mod frame_store;

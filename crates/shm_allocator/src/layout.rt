@@ -49,11 +49,11 @@ impl From<ValidLayout> for Layout {
     }
 }
 
-// x rounded up to a multiple of a.
+// x rounded up to a multiple of a. By hand, since `next_multiple_of` tests the remainder, at each request.
 pub(crate) fn round_up(x: u64, a: u64) -> u64
     requires { (0 < a) × (x + a < 2 ^ 64) }
     ensures value { result ≡ rounded_up x a }
     ensures bound { (x ≤ result) × (result < x + a) }
 {
-    x.next_multiple_of(a)
+    (x + (a - 1)) / a * a
 }

@@ -7,7 +7,7 @@ ghost use Rattle.shm_allocator.specs.Meaning.{Meaning, Lawful, Answered, Decline
 ghost use Rattle.shm_allocator.specs.declared.AllocationStrategy.TheVariants.{Static};
 
 use layout::ValidLayout;
-use pointer_offset::Denial;
+pub use pointer_offset::Denial;
 
 mod buckets;
 pub mod bump_allocator;

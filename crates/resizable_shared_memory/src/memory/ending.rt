@@ -6,6 +6,8 @@ use shm_allocator::ShmAllocator;
 
 impl<A: ShmAllocator> DynamicMemory<A> {
     // Withdraws every segment, the management segment last. Handles that the store no longer knows are passed over.
+    // Inlined, since a call copies the whole memory.
+    #[inline]
     pub fn end<S: SegmentStore>(self, store: &mut S)
         ensures { Ends self (S.SegmentStore.means store.old) (S.SegmentStore.means store.new) }
     {

@@ -80,8 +80,12 @@ impl Table {
     }
 }
 
+// By `fold`, which takes no branch at a place, where `filter` and `count` take one.
 fn number_of_some(places: &[Option<Place>]) -> usize
     ensures { result ≡ count_by is_some places.now }
 {
-    places.iter().filter(|place| place.is_some()).count()
+    places.iter().fold(
+        0,
+        |count, place| if place.is_some() { count + 1 } else { count },
+    )
 }
