@@ -2,6 +2,7 @@ use crate::call::{Call, Creation};
 use crate::line::{Content, Line};
 use crate::report::Report;
 use crate::stage::Stage;
+use crate::stop::Stop;
 use std::alloc::Global;
 
 // What the lists so far want next.
@@ -36,7 +37,7 @@ impl<'rt, 'a> Comparison<'rt, 'a> {
         }
     }
 
-    pub fn take(&mut self, line: Line<'a>) -> anyhow::Result<()> {
+    pub fn take(&mut self, line: Line<'a>) -> Result<(), Stop> {
         let content = Content::read(self.heap, line.text)?;
         let before = self.last;
         self.last = line.number;
@@ -66,7 +67,7 @@ impl<'rt, 'a> Comparison<'rt, 'a> {
         self.stage = Stage::Uncreated;
     }
 
-    fn create(&mut self, line: Line<'a>, creation: Creation) -> anyhow::Result<()> {
+    fn create(&mut self, line: Line<'a>, creation: Creation) -> Result<(), Stop> {
         let found = self
             .stage
             .create(self.heap, creation, &mut self.report.counts);
@@ -74,7 +75,7 @@ impl<'rt, 'a> Comparison<'rt, 'a> {
     }
 
     // A line of a list after its creation.
-    fn carry_out(&mut self, line: Line<'a>, content: &Content) -> anyhow::Result<()> {
+    fn carry_out(&mut self, line: Line<'a>, content: &Content) -> Result<(), Stop> {
         match content {
             Content::Call(_) if self.report.is_lost() => {
                 self.report.skip();
@@ -89,7 +90,7 @@ impl<'rt, 'a> Comparison<'rt, 'a> {
     }
 
     // Ends the list whose last line has that number.
-    fn end_list(&mut self, last: u64) -> anyhow::Result<()> {
+    fn end_list(&mut self, last: u64) -> Result<(), Stop> {
         match self.awaited {
             Awaited::List => Ok(()),
             Awaited::Creation(head) => self.report.fault(head, "no create follows"),

@@ -13,6 +13,7 @@ mod line;
 mod reason;
 mod report;
 mod stage;
+mod stop;
 mod subject;
 mod words;
 

@@ -1,6 +1,7 @@
 use crate::counts::{Counts, count};
 use crate::finding::{Difference, Finding, Trouble};
 use crate::line::Line;
+use crate::stop::Stop;
 use anyhow::ensure;
 use std::fmt;
 
@@ -64,7 +65,7 @@ impl<'a> Report<'a> {
         count(&mut self.totals.skipped);
     }
 
-    pub fn call(&mut self, line: Line<'_>, found: Result<Finding, Trouble>) -> anyhow::Result<()> {
+    pub fn call(&mut self, line: Line<'_>, found: Result<Finding, Trouble>) -> Result<(), Stop> {
         count(&mut self.totals.calls);
         match found {
             Ok(Finding::Same) => Ok(()),
@@ -78,18 +79,18 @@ impl<'a> Report<'a> {
         }
     }
 
-    fn differ(&mut self, line: Line<'_>, difference: Difference) -> anyhow::Result<()> {
+    fn differ(&mut self, line: Line<'_>, difference: Difference) -> Result<(), Stop> {
         count(&mut self.totals.differing);
         let list = self.list;
         self.lose(format_args!("list {list}, {line}\n    {difference}"))
     }
 
-    pub fn fault(&mut self, line: Line<'_>, why: &str) -> anyhow::Result<()> {
+    pub fn fault(&mut self, line: Line<'_>, why: &str) -> Result<(), Stop> {
         count(&mut self.totals.faults);
         self.lose(format_args!("{line}\n    {why}"))
     }
 
-    fn lose(&mut self, message: impl fmt::Display + Drop) -> anyhow::Result<()> {
+    fn lose(&mut self, message: impl fmt::Display + Drop) -> Result<(), Stop> {
         self.lost = true;
         if self.totals.troubles() <= PRINTED {
             println!(self.rt; "{message}")?;

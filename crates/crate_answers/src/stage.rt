@@ -13,8 +13,9 @@ use std::alloc::Global;
 pub enum Stage {
     // There is no memory: only viewers are opened.
     Uncreated,
-    Pool(Subject<PoolAllocator>),
-    Bump(Subject<BumpAllocator>),
+    // In a box, since a pool takes five thousand bytes, which no other stage is to be moved with.
+    Pool(Box<Subject<PoolAllocator>>),
+    Bump(Box<Subject<BumpAllocator>>),
     Ended,
 }
 
@@ -31,8 +32,12 @@ impl Stage {
             return Ok(Finding::PassedOver);
         }
         let created = match creation.kind {
-            Kind::Pool => Subject::create(heap, creation, layout, counts)?.map(Stage::Pool),
-            Kind::Bump => Subject::create(heap, creation, layout, counts)?.map(Stage::Bump),
+            Kind::Pool => Subject::create(heap, creation, layout, counts)?.map(
+                |subject| Stage::Pool(subject),
+            ),
+            Kind::Bump => Subject::create(heap, creation, layout, counts)?.map(
+                |subject| Stage::Bump(subject),
+            ),
         };
         *self = created.unwrap_or(Stage::Uncreated);
         Ok(Finding::Same)
@@ -46,14 +51,9 @@ impl Stage {
             Stage::Uncreated | Stage::Ended => return Err(Trouble::Misplaced),
         };
         if matches!(call, Call::End) {
-            self.end();
+            *self = Stage::Ended;
         }
         Ok(found)
-    }
-
-    // A function, since an assignment of a stage clears as many bytes as the largest has, and only an end is to pay for it.
-    fn end(&mut self) {
-        *self = Stage::Ended;
     }
 
     // The list may end here.

@@ -81,17 +81,21 @@ impl<A: ShmAllocator> Subject<A> {
         creation: Creation,
         layout: ValidLayout,
         counts: &mut Counts,
-    ) -> Result<Option<Subject<A>>, Trouble> {
+    ) -> Result<Option<Box<Subject<A>>>, Trouble> {
         let setup = first_setup::<A>(layout, creation.chunks);
         let came = setup.map(|setup| u64::from(setup.payload));
         counts.compare(Answer::Creation(creation.recorded), Answer::Creation(came))?;
-        let subject = setup.ok().map(|setup| Subject {
+        let Ok(setup) = setup else {
+            return Ok(None);
+        };
+        let subject = Subject {
             allocator: A::set_up(setup.config, setup.payload),
             segment: setup.segment,
             strategy: creation.strategy,
             chunks: Vec::new(heap),
-        });
-        Ok(subject)
+        };
+        let subject = Box::new(heap, subject).map_err(AllocError::from)?;
+        Ok(Some(subject))
     }
 
     pub fn carry_out(&mut self, call: &Call, counts: &mut Counts) -> Result<Finding, Trouble> {
