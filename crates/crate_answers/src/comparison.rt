@@ -15,7 +15,7 @@ enum Awaited<'a> {
     Calls,
 }
 
-// The lists, compared line by line, so that no more than one line is kept.
+// The lists, compared line by line, so that what a line says is not kept.
 #[derive(Drop)]
 pub struct Comparison<'rt, 'a> {
     heap: Global,

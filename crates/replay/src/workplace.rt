@@ -16,7 +16,7 @@ pub trait Workplace: Drop {
     fn sum_up(&self, rt: &HostRuntime) -> anyhow::Result<()>;
 }
 
-// What the latest setup made. One type for all, so that each line is read once and let go.
+// What the latest setup made. One type for all, so that what a line says is not kept.
 #[derive(Drop)]
 pub enum Current {
     // Before a setup, and after one that failed.
